@@ -1,0 +1,4 @@
+mod AnswerLaws
+mod FrameLaws
+mod HistoryLaws
+mod Pieces

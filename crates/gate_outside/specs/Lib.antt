@@ -1,0 +1,5 @@
+pub mod Failing
+pub mod InMemory
+pub mod Shelf
+pub mod Sink
+pub mod Source

@@ -1,0 +1,28 @@
+//! The outside as traits: a source of bytes, a sink for bytes, and a shelf of named files.
+//!
+//! It stands on `text_types` for texts and bytes, and on `fault_causes` for the words on faults.
+//! Each trait says what a call does to what the object holds, where the object tells it, and keeps a
+//! count of faults: a call answers `Failed` only where that count rose in the call. The layer above
+//! takes its input, its output and its files by these three traits alone, so whatever it proves holds
+//! over any of them. Here stand the forms in memory; those over the system's files and streams stand
+//! in the program.
+#![tactic(auto)]
+
+mod failing;
+mod memory_shelf;
+mod memory_sink;
+mod memory_source;
+mod shelf;
+mod sink;
+mod source;
+
+pub use failing::{Failing, FailingShelf, FailingSink, FailingSource};
+pub use memory_shelf::MemoryShelf;
+pub use memory_sink::MemorySink;
+pub use memory_source::MemorySource;
+pub use shelf::{Shelf, ShelfError};
+pub use sink::{Sink, write_all};
+pub use source::{Failed, Source};
+
+#[cfg(test)]
+mod tests;

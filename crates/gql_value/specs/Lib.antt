@@ -1,0 +1,4 @@
+pub mod Fronts
+pub mod Json
+pub mod Refusal
+pub mod Text

@@ -1,0 +1,25 @@
+//! JSON values whose numbers are whole, and their compact text. It stands on the base types and on
+//! `serde_json`, from whose values it takes over what it can tell exactly.
+//!
+//! The layer above has one contract: [`from_json`] gives the value that some JSON is, or the path of
+//! the first number in it that isn't whole, and [`write_text`] appends the text of a value or
+//! changes nothing. Want of memory is the one failure that no clause ties to a cause.
+#![tactic(auto)]
+
+mod copying;
+mod equality;
+mod fronts;
+mod json;
+mod json_error;
+mod quoting;
+mod refusal;
+#[cfg(test)]
+mod tests;
+mod value;
+mod writing;
+
+pub use json::from_json;
+pub use json_error::JsonError;
+pub use quoting::write_quoted;
+pub use value::{Members, Value, Values};
+pub use writing::write_text;

@@ -1,0 +1,119 @@
+use crate::{JsonError, Members, Value, Values, from_json, write_quoted, write_text};
+use std::alloc::Global;
+use std::test::Fail;
+use text_types::{Bytes, Text};
+
+fn value_of(alloc: Global, text: &str) -> Result<Value, Fail> {
+    let json = serde_json::Value::from_str(alloc, text)?;
+    Ok(from_json(alloc, &json)?)
+}
+
+#[test]
+fn json_comes_back_compact_and_sorted(rt: HostRuntime) -> Result<(), Fail> {
+    for (text, compact) in [
+        (" null ", "null"),
+        ("[true, false, []]", "[true,false,[]]"),
+        ("{}", "{}"),
+        ("9223372036854775807", "9223372036854775807"),
+        ("-9223372036854775808", "-9223372036854775808"),
+        ("[0, -1]", "[0,-1]"),
+        (
+            "{\"b\": [1, {\"c\": null}], \"a\": 2}",
+            "{\"a\":2,\"b\":[1,{\"c\":null}]}",
+        ),
+        ("{\"a\": 1, \"a\": 2}", "{\"a\":2}"),
+        ("\"\\u0041\\/\\u00e9\\u001F\"", "\"A/é\\u001f\""),
+    ] {
+        let mut out = Bytes::new(rt.alloc());
+        write_text(&value_of(rt.alloc(), text)?, &mut out)?;
+        assert_eq!(rt; out.as_slice(), compact.as_bytes(), "at {text}");
+    }
+    Ok(())
+}
+
+#[test]
+fn the_first_number_that_is_not_whole_is_told(rt: HostRuntime) -> Result<(), Fail> {
+    for (text, first) in [
+        ("1.0", ""),
+        ("1e2", ""),
+        ("-0", ""),
+        ("9223372036854775808", ""),
+        ("-9223372036854775809", ""),
+        ("[0, 1, 2.5, 3.5]", "2"),
+        ("{\"b\": 1.5, \"a\": [7, {\"x\": 0.5}]}", "a.1.x"),
+        ("[[1], [2, [3.5]], 4.5]", "1.1.0"),
+        ("{\"\": 1.5}", ""),
+        ("{\"a.b\": [1.5]}", "a.b.0"),
+    ] {
+        let json = serde_json::Value::from_str(rt.alloc(), text)?;
+        match from_json(rt.alloc(), &json) {
+            Err(JsonError::NotWhole { path }) => assert_eq!(rt; path.as_str(), first, "at {text}"),
+            other => assert!(rt; false, "{text} gave {other:?}"),
+        }
+    }
+    Ok(())
+}
+
+#[test]
+fn texts_are_escaped_where_they_must_be(rt: HostRuntime) -> Result<(), Fail> {
+    for (text, quoted) in [
+        ("", "\"\""),
+        (
+            "plain, with spaces / and é",
+            "\"plain, with spaces / and é\"",
+        ),
+        ("\"\\", "\"\\\"\\\\\""),
+        ("\u{8}\u{c}\n\r\t", "\"\\b\\f\\n\\r\\t\""),
+        (
+            "\u{0}\u{1}\u{b}\u{1f} ",
+            "\"\\u0000\\u0001\\u000b\\u001f \"",
+        ),
+        ("\u{7f}\u{2028}\u{1f600}", "\"\u{7f}\u{2028}\u{1f600}\""),
+        ("a\nb\"c", "\"a\\nb\\\"c\""),
+    ] {
+        let mut out = Bytes::new(rt.alloc());
+        write_quoted(&Text::from_str(rt.alloc(), text)?, &mut out)?;
+        assert_eq!(rt; out.as_slice(), quoted.as_bytes());
+    }
+    Ok(())
+}
+
+#[test]
+fn a_copy_is_the_same(rt: HostRuntime) -> Result<(), Fail> {
+    let texts = [
+        "null",
+        "false",
+        "0",
+        "\"0\"",
+        "[]",
+        "[0]",
+        "[0, 0]",
+        "{}",
+        "{\"a\": 0}",
+        "{\"b\": 0}",
+        "{\"a\": 0, \"b\": [{}]}",
+    ];
+    for (at, text) in texts.iter().enumerate() {
+        let value = value_of(rt.alloc(), text)?;
+        assert!(rt; value.copy(rt.alloc())?.same(&value), "at {text}");
+        for (other_at, other) in texts.iter().enumerate() {
+            let same = value.same(&value_of(rt.alloc(), other)?);
+            assert_eq!(rt; same, at == other_at, "at {text} beside {other}");
+        }
+    }
+    Ok(())
+}
+
+#[test]
+fn members_keep_their_order(rt: HostRuntime) -> Result<(), Fail> {
+    let mut members = Members::new(rt.alloc());
+    members.push(
+        Text::from_str(rt.alloc(), "b")?,
+        Value::List(Values::new(rt.alloc())),
+    )?;
+    members.push(Text::from_str(rt.alloc(), "a")?, Value::Null)?;
+    let mut out = Bytes::new(rt.alloc());
+    write_text(&Value::Obj(members), &mut out)?;
+    assert_eq!(rt; out.as_slice(), b"{\"b\":[],\"a\":null}".as_slice());
+    Ok(())
+}
