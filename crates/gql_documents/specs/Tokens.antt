@@ -2,7 +2,7 @@
 use Rattle.std.specs.Prelude.{ℕ, zero, suc, ◌==◌, ◌||◌, ◌&&◌, not, nat_le, Bool, true, false, if◌then◌else◌, List, [], ◌∷◌, length, take, drop, bytes_eq, Option, Some, None}
 use Rattle.std.specs.List.{prefix_len}
 
--- a token; `Other` stands where none begins
+-- a token; `Other` stands where none of the others begins
 pub data Token : Type 0 where
   Open : Token
   Close : Token

@@ -20,9 +20,9 @@ const DEEPEST: usize = 64;
 pub fn parse_document(alloc: Global, text: &[u8]) -> Result<Document, SyntaxError>
     ensures ok { IfOk result (λ d. query_of text.now ≡ Some d.selection) }
     ensures refused { IfErr result (RefusedWhere (query_of text.now ≡ None)) }
-    ensures spelt { IfOk result (λ d. tokens_of text.now ≡ spelled d.selection) }
+    ensures spells { IfOk result (λ d. tokens_of text.now ≡ spelled d.selection) }
     ensures of_the_form { IfOk result (λ d. IsOfTheForm d.selection) }
-    ensures unspelt { IfErr result
+    ensures spells_no_query { IfErr result
         (RefusedWhere ((q : Fields) → IsOfTheForm q → tokens_of text.now ≢ spelled q)) }
 {
     let mut tokens = Tokens::new(text);

@@ -1,6 +1,6 @@
 -- What was converted so far, beside the JSON that it was converted from.
-use Rattle.std.proofs.Common.{◌≡◌, ℕ, ◌+◌, ◌<◌, List, [], ◌∷◌, ◌++◌, length, map, take, drop, get_or, Option, None, Some, string_bytes, refl, ap, ap₂, sym, ◌∙◌}
-use Rattle.std.proofs.lemmas.List.{map_more, drop_more}
+use Rattle.std.proofs.Common.{◌≡◌, ℕ, ◌+◌, ◌<◌, List, [], ◌∷◌, ◌++◌, length, map, drop, get_or, Option, None, string_bytes, refl, ap, ap₂, sym, ◌∙◌}
+use Rattle.std.proofs.lemmas.List.{map-append, drop_more}
 use Rattle.std.specs.Prelude.{decimal}
 use Rattle.std.specs.Option.{option_or}
 use Rattle.serde_json.specs.Data.{Data, Members}
@@ -17,9 +17,11 @@ use Rattle.gql_value.specs.Json.{data_of, members_of, behind, not_whole, not_who
 abbrev pub SameItems : List Value → List json.Value → Type 0
 SameItems values items = map data_of values ≡ map view items
 
+-- a name with the data of its value
 abbrev pub named_data : List ℕ × Value → List ℕ × Data
 named_data m = (m.0, data_of m.1)
 
+-- the name of an entry with its data
 abbrev pub named_view : Entry → List ℕ × Data
 named_view e = (string_bytes e.0, view e.1)
 
@@ -27,31 +29,24 @@ named_view e = (string_bytes e.0, view e.1)
 abbrev pub SameMembers : List (List ℕ × Value) → List Entry → Type 0
 SameMembers values entries = map named_data values ≡ map named_view entries
 
-map_push : {X Y : Type 0} (f : X → Y) (xs : List X) (x : X) → map f (xs ++ x ∷ []) ≡ map f xs ++ f x ∷ []
-map_push f [] x = refl
-map_push f (y ∷ xs) x = ap (λ z. f y ∷ z) (map_push f xs x)
-
-pub SameItems-more : (values : List Value) (items : List json.Value) (i : ℕ) (v : Value) (x : json.Value) → i < length items → x ≡ get_or items i x → data_of v ≡ view x → SameItems values (take i items) → SameItems (values ++ v ∷ []) (take (i + 1) items)
-SameItems-more values items i v x h e d s = map_push data_of values v ∙ ap₂ (λ a b. a ++ b ∷ []) s (d ∙ ap view e) ∙ sym (map_more view items i x h)
-
+-- one more on each side
 pub SameMembers-more : (values : List (List ℕ × Value)) (entries : List Entry) (v : Value) (e : Entry) → data_of v ≡ view e.1 → SameMembers values entries → SameMembers (values ++ (string_bytes e.0, v) ∷ []) (entries ++ e ∷ [])
-SameMembers-more values entries v e d s = map_push named_data values (string_bytes e.0, v) ∙ ap₂ (λ a b. a ++ (string_bytes e.0, b) ∷ []) s d ∙ sym (map_push named_view entries e)
+SameMembers-more values entries v e d s = map-append named_data values ((string_bytes e.0, v) ∷ []) ∙ ap₂ (λ a b. a ++ (string_bytes e.0, b) ∷ []) s d ∙ sym (map-append named_view entries (e ∷ []))
 
 view_members : (entries : List Entry) → members_of (map named_view entries) ≡ members_view entries
 view_members [] = refl
 view_members (e ∷ es) = ap (λ ms. Members.member (string_bytes e.0) (view e.1) ms) (view_members es)
 
+-- all of them make the same object
 pub SameMembers-view : (values : List (List ℕ × Value)) (entries : List Entry) → SameMembers values entries → members_of (map named_data values) ≡ members_view entries
 SameMembers-view values entries s = ap members_of s ∙ view_members entries
 
-module _ (items : List json.Value) (i : ℕ) (x : json.Value) (h : i < length items) (e : x ≡ get_or items i x) where
-  -- the first item beside those behind it
-  pub split_from : not_whole_from i (items_view (drop i items)) ≡ option_or (behind (decimal i) (not_whole (view x))) (not_whole_from (i + 1) (items_view (drop (i + 1) items)))
-  split_from = ap (λ xs. not_whole_from i (items_view xs)) (drop_more items i x h) ∙ ap (λ y. option_or (behind (decimal i) (not_whole (view y))) (not_whole_from (i + 1) (items_view (drop (i + 1) items)))) (sym e)
-
-  -- a whole item leads on to the next
-  pub whole_item : not_whole (view x) ≡ None → not_whole_from i (items_view (drop i items)) ≡ not_whole_from (i + 1) (items_view (drop (i + 1) items))
-  whole_item w = split_from ∙ ap (λ o. option_or (behind (decimal i) o) (not_whole_from (i + 1) (items_view (drop (i + 1) items)))) w
+-- the first number of what is left of a list: in its first item, or behind that
+pub not_whole_from-drop : (items : List json.Value) (i : ℕ) (x : json.Value) → i < length items → x ≡ get_or items i x
+    → not_whole_from i (items_view (drop i items)) ≡ option_or (behind (decimal i) (not_whole (view x))) (not_whole_from (i + 1) (items_view (drop (i + 1) items)))
+not_whole_from-drop items i x h at =
+    ap (λ xs. not_whole_from i (items_view xs)) (drop_more items i x h)
+    ∙ ap (λ y. option_or (behind (decimal i) (not_whole (view y))) (not_whole_from (i + 1) (items_view (drop (i + 1) items)))) (sym at)
 
 -- a whole member leads on to the next
 pub whole_member : (e : Entry) (es : List Entry) → not_whole (view e.1) ≡ None → not_whole_in (members_view (e ∷ es)) ≡ not_whole_in (members_view es)

@@ -13,23 +13,23 @@ returns-in_err-selection-clause-refused c =
     rw (p.1, p.2)
     (refused_weaker c.in_err-selection.field-0.0 (λ r. no_query c.args.text.now (refused_all 64 _ r)) (rw c.new-tokens.ensures at c.in_err-selection.ensures.refuses))
 
-pub returns-in_err-selection-clause-unspelt : goal.returns-in_err-selection-clause-unspelt
-returns-in_err-selection-clause-unspelt c =
+pub returns-in_err-selection-clause-spells_no_query : goal.returns-in_err-selection-clause-spells_no_query
+returns-in_err-selection-clause-spells_no_query c =
     let p = err_from_is_err_and c.from_residual.result c.from_residual.ensures.1 in
     rw (p.1, p.2)
     (refused_weaker c.in_err-selection.field-0.0 (refused_all 64 _) (rw c.new-tokens.ensures at c.in_err-selection.ensures.refuses))
 
-unspelt : (c : goal.After-drop-selection-inside) → (q : Fields) → IsOfTheForm q → tokens_of c.args.text.now ≢ spelled q
-unspelt c =
+no_spelling : (c : goal.After-drop-selection-inside) → (q : Fields) → IsOfTheForm q → tokens_of c.args.text.now ≢ spelled q
+no_spelling c =
     refused_rest 64 (tokens_of c.args.text.now) c.selection_set.new.tokens c.in_ok-selection.selection
     (iff_false c.is_empty.ensures c.if-not-is_empty.true)
     (rw c.new-tokens.ensures at c.in_ok-selection.ensures.reads)
 
 pub returns-then-not-is_empty-clause-refused : goal.returns-then-not-is_empty-clause-refused
-returns-then-not-is_empty-clause-refused c = refused_here c.refusal.result c.refusal.ensures (no_query c.args.text.now (unspelt c))
+returns-then-not-is_empty-clause-refused c = refused_here c.refusal.result c.refusal.ensures (no_query c.args.text.now (no_spelling c))
 
-pub returns-then-not-is_empty-clause-unspelt : goal.returns-then-not-is_empty-clause-unspelt
-returns-then-not-is_empty-clause-unspelt c = refused_here c.refusal.result c.refusal.ensures (unspelt c)
+pub returns-then-not-is_empty-clause-spells_no_query : goal.returns-then-not-is_empty-clause-spells_no_query
+returns-then-not-is_empty-clause-spells_no_query c = refused_here c.refusal.result c.refusal.ensures (no_spelling c)
 
 pub returns-clause-ok : goal.returns-clause-ok
 returns-clause-ok c =

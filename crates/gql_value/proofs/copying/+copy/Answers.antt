@@ -1,4 +1,4 @@
-use Rattle.std.proofs.Common.{◌≡◌, subst, sym, arith, take, get_or}
+use Rattle.std.proofs.Common.{subst, sym, arith, take}
 use Rattle.text_types.specs.Names.{HasDistinctNames, Lacks}
 use Rattle.text_types.proofs.NameLaws.{Lacks-take}
 use Rattle.gql_value.proofs.copying.+copy.Goals as goal

@@ -1,12 +1,11 @@
-use Rattle.std.proofs.Common.{◌≡◌, ◌+◌, [], ◌∷◌, ◌++◌, drop, sym, ap, ◌∙◌, subst, append_assoc, append-nil, arith, decimal, string_cmp, string_bytes}
+use Rattle.std.proofs.Common.{◌≡◌, [], ◌∷◌, ◌++◌, sym, ap, ◌∙◌, subst, append_assoc, append-nil, arith, decimal, string_cmp, string_bytes}
 use Rattle.std.specs.List.Sorted.{IsStrictlySortedBy}
 use Rattle.std.specs.Map.{keys_of}
-use Rattle.text_types.specs.Names.{Lacks}
-use Rattle.serde_json.specs.View.{view, items_view, members_view}
+use Rattle.serde_json.specs.View.{view, members_view}
 use Rattle.serde_json.proofs.Views.{Entry}
-use Rattle.gql_value.specs.Json.{behind, not_whole, not_whole_from, not_whole_in}
+use Rattle.gql_value.specs.Json.{behind, not_whole, not_whole_in}
 use Rattle.gql_value.specs.Refusal.{IsStepsOf}
-use Rattle.gql_value.proofs.Conversion.{SameMembers, SameMembers-more, SameMembers-view, whole_member, split_from, IsStepsOf-option_or}
+use Rattle.gql_value.proofs.Conversion.{SameMembers-more, SameMembers-view, whole_member, not_whole_from-drop, IsStepsOf-option_or}
 use Rattle.gql_value.proofs.KeyOrder.{Lacks-SameMembers}
 use Rattle.gql_value.proofs.json.+convert.Goals as goal
 
@@ -16,7 +15,7 @@ convert_items-returns-in-Err-clause-refused t c =
     let i = c.loop-at.at in
     let first = not_whole (view c.item-item.result) in
     let told : IsStepsOf (behind (decimal i) first) c.behind.result = rw (sym c.in_ok-index_text-in-Err.ensures) (c.behind.ensures first c.in-Err.ensures.refused) in
-    let whole = sym c.loop-at.invariant.1 ∙ split_from items i c.item-item.result (omega arith) c.item-item.is in
+    let whole = sym c.loop-at.invariant.1 ∙ not_whole_from-drop items i c.item-item.result (omega arith) c.item-item.is in
     rw (← c.deref-item-items.ensures.value) (subst (λ o. IsStepsOf o c.behind.result) (sym whole) (IsStepsOf-option_or _ _ c.behind.result told))
 
 pub convert_members-push-requires : goal.convert_members-push-requires

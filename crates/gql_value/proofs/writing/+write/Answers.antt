@@ -1,4 +1,4 @@
-use Rattle.std.proofs.Common.{ℕ, List, ◌++◌, map, arith, append_assoc}
+use Rattle.std.proofs.Common.{ℕ, List, map, arith, append_assoc}
 use Rattle.std.proofs.lemmas.List.{length-map}
 use Rattle.gql_value.specs.declared.value.Value.{Value}
 use Rattle.gql_value.specs.Text.{text_of, member_text}

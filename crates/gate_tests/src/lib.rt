@@ -1,0 +1,9 @@
+//! The worked examples that run the top call, as tables. No other crate tests across crates.
+#![tactic(auto)]
+
+#[cfg(test)]
+mod faults;
+#[cfg(test)]
+mod outside;
+#[cfg(test)]
+mod rows;

@@ -1,0 +1,62 @@
+//! Lines in, lines out.
+
+use crate::outside::{ALL_WELL, PLAIN, run};
+use std::test::Fail;
+
+/// A name, the input, and what is written for it.
+type Row = (&'static str, &'static str, &'static str);
+
+const ROWS: [Row; 9] = [
+    (
+        "plain path",
+        "{\"do\":\"dispatch\",\"id\":1,\"query\":\"{me{id name}}\"}\n{\"do\":\"response\",\"fetch\":1,\"body\":{\"data\":{\"me\":{\"__typename\":\"User\",\"id\":\"7\",\"name\":\"Ann\"}}}}\n",
+        "{\"out\":\"fetch\",\"fetch\":1,\"query\":\"{me{__typename id name}}\",\"operationName\":null,\"variables\":{}}\n{\"out\":\"reply\",\"id\":1,\"data\":{\"me\":{\"id\":\"7\",\"name\":\"Ann\"}},\"partial\":false,\"stale\":false}\n",
+    ),
+    ("empty input", "", ""),
+    (
+        "a hit is answered at once",
+        "{\"do\":\"dispatch\",\"id\":1,\"query\":\"{me{id name}}\"}\n{\"do\":\"response\",\"fetch\":1,\"body\":{\"data\":{\"me\":{\"__typename\":\"User\",\"id\":\"7\",\"name\":\"Ann\"}}}}\n{\"do\":\"dispatch\",\"id\":2,\"query\":\"{me{id}}\"}\n",
+        "{\"out\":\"fetch\",\"fetch\":1,\"query\":\"{me{__typename id name}}\",\"operationName\":null,\"variables\":{}}\n{\"out\":\"reply\",\"id\":1,\"data\":{\"me\":{\"id\":\"7\",\"name\":\"Ann\"}},\"partial\":false,\"stale\":false}\n{\"out\":\"reply\",\"id\":2,\"data\":{\"me\":{\"id\":\"7\"}},\"partial\":false,\"stale\":false}\n",
+    ),
+    (
+        "two selections of one entity, answered out of order",
+        "{\"do\":\"dispatch\",\"id\":1,\"query\":\"{me{id name}}\"}\n{\"do\":\"dispatch\",\"id\":2,\"query\":\"{me{name id}}\"}\n{\"do\":\"response\",\"fetch\":2,\"body\":{\"data\":{\"me\":{\"__typename\":\"User\",\"id\":\"7\",\"name\":\"Bob\"}}}}\n{\"do\":\"response\",\"fetch\":1,\"body\":{\"data\":{\"me\":{\"__typename\":\"User\",\"id\":\"7\",\"name\":\"Ann\"}}}}\n",
+        "{\"out\":\"fetch\",\"fetch\":1,\"query\":\"{me{__typename id name}}\",\"operationName\":null,\"variables\":{}}\n{\"out\":\"fetch\",\"fetch\":2,\"query\":\"{me{__typename name id}}\",\"operationName\":null,\"variables\":{}}\n{\"out\":\"reply\",\"id\":2,\"data\":{\"me\":{\"name\":\"Bob\",\"id\":\"7\"}},\"partial\":false,\"stale\":false}\n{\"out\":\"reply\",\"id\":1,\"data\":{\"me\":{\"id\":\"7\",\"name\":\"Bob\"}},\"partial\":false,\"stale\":false}\n",
+    ),
+    (
+        "refusals, with blank lines counted",
+        "{\"do\":\n \t\r\n{\"do\":\"quit\"}\n{\"do\":\"dispatch\",\"id\":-1,\"query\":\"{me}\"}\n{\"do\":\"dispatch\",\"id\":1,\"query\":\"{me{id name}\"}\n\n{\"do\":\"response\",\"fetch\":1,\"body\":{}}",
+        "{\"out\":\"refused\",\"line\":1,\"code\":\"E2\"}\n{\"out\":\"refused\",\"line\":3,\"code\":\"E3\",\"member\":\"do\"}\n{\"out\":\"refused\",\"line\":4,\"code\":\"E3\",\"member\":\"do\"}\n{\"out\":\"refused\",\"line\":5,\"code\":\"E6\",\"row\":1,\"column\":1}\n{\"out\":\"refused\",\"line\":7,\"code\":\"E3\",\"member\":\"do\"}\n",
+    ),
+    (
+        "an id that still waits is refused before its query is looked at",
+        "{\"do\":\"dispatch\",\"id\":1,\"query\":\"{a}\"}\n{\"do\":\"dispatch\",\"id\":1,\"query\":\"{\"}\n",
+        "{\"out\":\"fetch\",\"fetch\":1,\"query\":\"{a}\",\"operationName\":null,\"variables\":{}}\n{\"out\":\"refused\",\"line\":2,\"code\":\"E3\",\"member\":\"do\"}\n",
+    ),
+    (
+        "an answer that isn't of the form leaves its operation waiting",
+        "{\"do\":\"dispatch\",\"id\":1,\"query\":\"{a{b}}\"}\n{\"do\":\"response\",\"fetch\":1,\"body\":{\"data\":{\"a\":{\"b\":1}}}}\n{\"do\":\"response\",\"fetch\":1,\"body\":{\"data\":{\"a\":{\"__typename\":\"T\",\"b\":1.0}}}}\n{\"do\":\"response\",\"fetch\":1,\"body\":{\"data\":{\"a\":null},\"errors\":[]}}\n{\"do\":\"response\",\"fetch\":1,\"body\":{\"data\":{\"a\":null}}}\n",
+        "{\"out\":\"fetch\",\"fetch\":1,\"query\":\"{a{__typename b}}\",\"operationName\":null,\"variables\":{}}\n{\"out\":\"refused\",\"line\":2,\"code\":\"E3\",\"member\":\"do\"}\n{\"out\":\"refused\",\"line\":3,\"code\":\"E3\",\"member\":\"do\"}\n{\"out\":\"refused\",\"line\":4,\"code\":\"E3\",\"member\":\"do\"}\n{\"out\":\"reply\",\"id\":1,\"data\":{\"a\":null},\"partial\":false,\"stale\":false}\n",
+    ),
+    (
+        "an answer that a later operation's answer covers is told as a miss",
+        "{\"do\":\"dispatch\",\"id\":1,\"query\":\"{a{b}}\"}\n{\"do\":\"dispatch\",\"id\":2,\"query\":\"{a}\"}\n{\"do\":\"response\",\"fetch\":2,\"body\":{\"data\":{\"a\":5}}}\n{\"do\":\"response\",\"fetch\":1,\"body\":{\"data\":{\"a\":{\"__typename\":\"T\",\"b\":\"x\"}}}}\n",
+        "{\"out\":\"fetch\",\"fetch\":1,\"query\":\"{a{__typename b}}\",\"operationName\":null,\"variables\":{}}\n{\"out\":\"fetch\",\"fetch\":2,\"query\":\"{a}\",\"operationName\":null,\"variables\":{}}\n{\"out\":\"reply\",\"id\":2,\"data\":{\"a\":5},\"partial\":false,\"stale\":false}\n{\"out\":\"reply\",\"id\":1,\"data\":null,\"partial\":false,\"stale\":false}\n",
+    ),
+    (
+        "an object without an id is embedded where it stands",
+        "{\"do\":\"dispatch\",\"id\":1,\"query\":\"{a{c{d}} b{c{d}}}\"}\n{\"do\":\"response\",\"fetch\":1,\"body\":{\"data\":{\"a\":{\"__typename\":\"T\",\"c\":{\"__typename\":\"U\",\"d\":1}},\"b\":{\"__typename\":\"T\",\"c\":{\"__typename\":\"U\",\"d\":2}}}}}\n",
+        "{\"out\":\"fetch\",\"fetch\":1,\"query\":\"{a{__typename c{__typename d}}b{__typename c{__typename d}}}\",\"operationName\":null,\"variables\":{}}\n{\"out\":\"reply\",\"id\":1,\"data\":{\"a\":{\"c\":{\"d\":1}},\"b\":{\"c\":{\"d\":2}}},\"partial\":false,\"stale\":false}\n",
+    ),
+];
+
+#[test]
+fn rows_write_their_lines(rt: HostRuntime) -> Result<(), Fail> {
+    for (name, input, output) in ROWS {
+        let ran = run(rt.alloc(), &PLAIN, input, &ALL_WELL)?;
+        assert_eq!(rt; ran.status, 0, "{name}");
+        assert_eq!(rt; ran.text.as_str(), output, "{name}");
+        assert_eq!(rt; ran.taken, input.len(), "{name}");
+    }
+    Ok(())
+}

@@ -1,0 +1,17 @@
+//! The top call: it does all that the program does.
+//!
+//! It stands on the gate, which says what a line of input does, and on the traits of the outside. Its
+//! one contract for the layer above is [`gate_main`]: what each exit status says of the bytes that
+//! were taken and of those that were written, over any source, sink and shelf.
+#![tactic(auto)]
+
+mod files;
+mod lines;
+mod run;
+mod split;
+mod stop;
+mod stopped;
+mod top;
+mod words;
+
+pub use top::gate_main;

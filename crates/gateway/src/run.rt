@@ -1,0 +1,61 @@
+//! The run over the input: its bytes are taken in pieces, and every whole line among them is run
+//! before more are taken.
+
+ghost use Rattle.std.specs.Prelude.{◌≡◌, ◌+◌, ◌≤◌, ◌^◌, ℕ, true, take, OnOk, IsErrOf};
+ghost use Rattle.std.specs.Io.KnownBytes.{IsAtEnd};
+ghost use Rattle.fault_causes.specs.Causes.{Rose};
+ghost use Rattle.gate_machine.specs.Runs.{run_text};
+ghost use Rattle.gateway.specs.Lines.{whole_lines_text, first_lines_text};
+ghost use Rattle.gateway.specs.Run.{Ran, RanFront};
+
+use crate::lines::Lines;
+use crate::stop::{LineStop, Stop};
+use gate_outside::{Sink, Source};
+use std::alloc::Global;
+
+/// Reads the input to its end, or to one byte past the limit, and writes what its lines write.
+pub(crate) fn run_lines<I: Source, O: Sink>(
+    alloc: Global,
+    limit: usize,
+    input: &mut I,
+    out: &mut O,
+) -> Result<(), Stop>
+    requires { limit ≤ 2 ^ 40 }
+    ensures finished { OnOk result (Ran I.left I.given input.old input.new O.held out.old out.new run_text) }
+    ensures ended { OnOk result ((I.ended input.new ≡ true) × IsAtEnd (I.left input.new)) }
+    ensures within { OnOk result (I.given input.new ≤ I.given input.old + limit) }
+    ensures source { IsErrOf result Stop.Source →
+        Rose (I.faults input.old) (I.faults input.new)
+        × Ran I.left I.given input.old input.new O.held out.old out.new whole_lines_text }
+    ensures past_limit { IsErrOf result Stop.Limit →
+        (I.given input.new ≡ I.given input.old + (limit + 1))
+        × Ran I.left I.given input.old input.new O.held out.old out.new (λ bytes. whole_lines_text (take limit bytes)) }
+    ensures sink { IsErrOf result (Stop.Line LineStop.Sink) →
+        Rose (O.faults out.old) (O.faults out.new)
+        × RanFront I.left I.given input.old input.new O.held out.old out.new run_text }
+    ensures memory { IsErrOf result (Stop.Line LineStop.Memory) →
+        (count : ℕ) × Ran I.left I.given input.old input.new O.held out.old out.new (first_lines_text count) }
+    ensures at_most { I.given input.new ≤ I.given input.old + (limit + 1) }
+    ensures later { O.faults out.old ≤ O.faults out.new }
+{
+    let mut lines = Lines::new(alloc);
+    let mut buffer = [0; 4096];
+    let mut taken = 0;
+    'reads: loop {
+        let room = buffer.len().min(limit - taken + 1);
+        let chunk = &mut buffer[..room];
+        let Ok(count) = input.read(chunk) else {
+            return Err(Stop::Source);
+        };
+        if count == 0 {
+            lines.finish(out)?;
+            return Ok(());
+        }
+        let within = count.min(limit - taken);
+        lines.take(&chunk[..within], out)?;
+        if within < count {
+            return Err(Stop::Limit);
+        }
+        taken += count;
+    }
+}
