@@ -2,6 +2,8 @@
 #![tactic(auto)]
 
 #[cfg(test)]
+mod base_types;
+#[cfg(test)]
 mod faults;
 #[cfg(test)]
 mod outside;

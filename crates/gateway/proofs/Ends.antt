@@ -1,15 +1,16 @@
 -- How the run ends in the top call: at a missing file, before its input, or with a stopped line.
-use Rattle.std.proofs.Common.{◌≡◌, ℕ, ◌++◌, List, [], Option, Some, refl, sym, subst, inl, inr, arith}
+use Rattle.std.proofs.Common.{◌≡◌, ℕ, ◌+◌, ◌<◌, List, [], length, take, Option, Some, refl, sym, subst, inl, inr, arith}
 use Rattle.std.specs.Prelude.{codes}
 use Rattle.std.specs.Io.KnownBytes.{Appends}
 use Rattle.std.proofs.KnownBytes.{Appends-trans, Appends-nil, Consumes-nil}
 use Rattle.fault_causes.specs.Causes.{Rose}
-use Rattle.gate_machine.specs.Runs.{run_text}
 use Rattle.gateway.specs.Words.{Names}
 use Rattle.gateway.specs.Files.{IsHeld, IsMissing, IsFirstMissing, MissesFile}
-use Rattle.gateway.specs.Stopped.{missing_line}
+use Rattle.gateway.specs.Lines.{whole_lines_text, first_lines_text, limited_text, full_text}
+use Rattle.gateway.specs.Stopped.{missing_line, limit_line}
 use Rattle.gateway.specs.Run.{WritesFront, Ran, RanFront}
 use Rattle.gateway.proofs.Fronts.{WritesFront-after}
+use Rattle.gateway.proofs.Law.{full_text-past}
 
 -- a file is missing
 module _ (files : Option (List ℕ → Option (List ℕ))) (old new : ℕ) (words : Option Names) (OfLine : List ℕ → Type 0) (names : Names) (given : words ≡ Some names) where
@@ -31,26 +32,29 @@ module _ (files : Option (List ℕ → Option (List ℕ))) (old new : ℕ) (word
 
 module _ {S K : Type 0} (left : S → Option (List ℕ)) (given : S → ℕ) (held : K → Option (List ℕ)) where
   -- nothing was taken or written
-  pub RanFront-none : (input : S) (out : K) → RanFront left given input input held out out run_text
-  RanFront-none input out = record {
+  pub RanFront-none : (limit : ℕ) (input : S) (out : K) → RanFront left given input input held out out (full_text limit)
+  RanFront-none limit input out = record {
     taken = [];
     took = record { read = Consumes-nil (left input); counted = omega arith };
-    written = record { front = []; rest = run_text []; parts = refl; written = Appends-nil (held out) };
+    written = record { front = []; rest = full_text limit []; parts = refl; written = Appends-nil (held out) };
   }
 
-  module _ (input input_new : S) (out out_new : K) (text : List ℕ → List ℕ) (ran : Ran left given input input_new held out out_new text) where
-    -- this text is a front of the whole text
-    pub RanFront-from : ((bytes : List ℕ) → (rest : List ℕ) × (run_text bytes ≡ text bytes ++ rest)) → RanFront left given input input_new held out out_new run_text
-    RanFront-from front = record {
-      taken = ran.taken;
-      took = ran.took;
-      written = record { front = text ran.taken; rest = (front ran.taken).0; parts = (front ran.taken).1; written = ran.written };
-    }
+  pub Ran-none : (limit : ℕ) (input : S) (out : K) → (count : ℕ) × Ran left given input input held out out (first_lines_text limit count)
+  Ran-none limit input out = (
+    0,
+    record {
+      taken = [];
+      took = record { read = Consumes-nil (left input); counted = omega arith };
+      written = Appends-nil (held out);
+    },
+  )
 
-    -- a line was written behind this text
-    module _ (out_last : K) (line : List ℕ) where
-      pub Ran-line : Appends (held out_new) (held out_last) line → Ran left given input input_new held out out_last (λ bytes. text bytes ++ line)
-      Ran-line h = record { taken = ran.taken; took = ran.took; written = Appends-trans _ _ _ _ line ran.written h }
+  -- one byte past the limit the stopped line was written behind the text
+  module _ (limit : ℕ) (input input_new : S) (out out_new out_last : K) (ran : Ran left given input input_new held out out_new (λ bytes. whole_lines_text (take limit bytes))) where
+    pub Ran-stopped : Appends (held out_new) (held out_last) limit_line → Ran left given input input_new held out out_last (limited_text limit)
+    Ran-stopped h = record { taken = ran.taken; took = ran.took; written = Appends-trans _ _ _ _ limit_line ran.written h }
 
-      pub RanFront-line : WritesFront (held out_new) (held out_last) line → RanFront left given input input_new held out out_last (λ bytes. text bytes ++ line)
-      RanFront-line h = record { taken = ran.taken; took = ran.took; written = WritesFront-after _ _ _ _ line ran.written h }
+    pub RanFront-stopped : given input_new ≡ given input + (limit + 1) → WritesFront (held out_new) (held out_last) limit_line → RanFront left given input input_new held out out_last (full_text limit)
+    RanFront-stopped past h =
+        let long : limit < length ran.taken = omega (arith, ran.took.counted) in
+        record { taken = ran.taken; took = ran.took; written = rw (full_text-past limit ran.taken long) (WritesFront-after _ _ _ _ limit_line ran.written h) }

@@ -1,7 +1,7 @@
 -- How the text and the progress of some bytes come from those of their parts.
 use Rattle.std.proofs.Common.{◌≡◌, ℕ, ◌+◌, ◌≤◌, List, [], ◌∷◌, ◌++◌, length, Bool, true, false, refl, sym, ap, ◌∙◌, append_assoc, append-nil, arith}
 use Rattle.std.specs.Prelude.{◌==◌, if◌then◌else◌}
-use Rattle.gateway.specs.Lines.{HasNoFeed}
+use Rattle.gateway.specs.Lines.{HasNoLineFeed}
 use Rattle.gateway.specs.Progress.{Progress, grown_by, line_here, next_line, text_after, progress_after}
 
 abbrev with_rest : Progress → List ℕ → Progress
@@ -38,37 +38,37 @@ pub not_feed : {A : Type 0} (is_feed : Bool) (x y : A) → is_feed ≡ false →
 not_feed true x y e = cc
 not_feed false x y e = refl
 
-pub text_after-front : (p : Progress) (front : List ℕ) → HasNoFeed front → text_after p front ≡ []
+pub text_after-front : (p : Progress) (front : List ℕ) → HasNoLineFeed front → text_after p front ≡ []
 text_after-front p [] n = refl
 text_after-front p (b ∷ front) n = not_feed (b == 10) _ _ n.0 ∙ text_after-front (grown_by p (b ∷ [])) front n.1
 
-pub progress_after-front : (p : Progress) (front : List ℕ) → HasNoFeed front → progress_after p front ≡ grown_by p front
+pub progress_after-front : (p : Progress) (front : List ℕ) → HasNoLineFeed front → progress_after p front ≡ grown_by p front
 progress_after-front p [] n = sym (grown_by-nil p)
 progress_after-front p (b ∷ front) n = not_feed (b == 10) _ _ n.0 ∙ progress_after-front (grown_by p (b ∷ [])) front n.1 ∙ grown_by-grown_by p (b ∷ []) front
 
 -- a line feed ends the line
-pub text_after-line : (p : Progress) (front : List ℕ) → HasNoFeed front → text_after p (front ++ 10 ∷ []) ≡ (line_here (grown_by p front)).text
+pub text_after-line : (p : Progress) (front : List ℕ) → HasNoLineFeed front → text_after p (front ++ 10 ∷ []) ≡ (line_here (grown_by p front)).text
 text_after-line p front n =
     text_after-append p front (10 ∷ [])
     ∙ ap (λ z. z ++ text_after (progress_after p front) (10 ∷ [])) (text_after-front p front n)
     ∙ ap (λ z. text_after z (10 ∷ [])) (progress_after-front p front n)
     ∙ append-nil _
 
-pub progress_after-line : (p : Progress) (front : List ℕ) → HasNoFeed front → progress_after p (front ++ 10 ∷ []) ≡ next_line (grown_by p front)
+pub progress_after-line : (p : Progress) (front : List ℕ) → HasNoLineFeed front → progress_after p (front ++ 10 ∷ []) ≡ next_line (grown_by p front)
 progress_after-line p front n = progress_after-append p front (10 ∷ []) ∙ ap (λ z. progress_after z (10 ∷ [])) (progress_after-front p front n)
 
 -- what comes behind a part that was run: one more line, and then a rest without a line feed
 module _ (p : Progress) (run : List ℕ) where
-  pub text_after-next : (front : List ℕ) → HasNoFeed front → text_after p (run ++ (front ++ 10 ∷ [])) ≡ text_after p run ++ (line_here (grown_by (progress_after p run) front)).text
+  pub text_after-next : (front : List ℕ) → HasNoLineFeed front → text_after p (run ++ (front ++ 10 ∷ [])) ≡ text_after p run ++ (line_here (grown_by (progress_after p run) front)).text
   text_after-next front n = text_after-append p run (front ++ 10 ∷ []) ∙ ap (λ z. text_after p run ++ z) (text_after-line (progress_after p run) front n)
 
-  pub progress_after-next : (front : List ℕ) → HasNoFeed front → progress_after p (run ++ (front ++ 10 ∷ [])) ≡ next_line (grown_by (progress_after p run) front)
+  pub progress_after-next : (front : List ℕ) → HasNoLineFeed front → progress_after p (run ++ (front ++ 10 ∷ [])) ≡ next_line (grown_by (progress_after p run) front)
   progress_after-next front n = progress_after-append p run (front ++ 10 ∷ []) ∙ progress_after-line (progress_after p run) front n
 
-  pub text_after-rest : (left : List ℕ) → HasNoFeed left → text_after p (run ++ left) ≡ text_after p run
+  pub text_after-rest : (left : List ℕ) → HasNoLineFeed left → text_after p (run ++ left) ≡ text_after p run
   text_after-rest left n = text_after-append p run left ∙ ap (λ z. text_after p run ++ z) (text_after-front (progress_after p run) left n) ∙ append-nil (text_after p run)
 
-  pub progress_after-rest : (left : List ℕ) → HasNoFeed left → progress_after p (run ++ left) ≡ grown_by (progress_after p run) left
+  pub progress_after-rest : (left : List ℕ) → HasNoLineFeed left → progress_after p (run ++ left) ≡ grown_by (progress_after p run) left
   progress_after-rest left n = progress_after-append p run left ∙ progress_after-front (progress_after p run) left n
 
 number_by : (is_feed : Bool) (p q : Progress) (n : ℕ) → p.number ≤ n → q.number ≤ n → (if is_feed then p else q).number ≤ n

@@ -9,6 +9,7 @@ pub record Progress : Type 0 where
   pub rest : List ℕ
   pub state : GatewayState
 
+-- before the first byte
 abbrev pub start : Progress
 start = record { number = 1; rest = []; state = empty_state }
 

@@ -6,6 +6,10 @@ use Rattle.std.specs.Io.KnownBytes.{Appends, Consumes}
 abbrev pub IsStatus : ℕ → Type 0
 IsStatus status = (status ≡ 0) ⊎ ((status ≡ 2) ⊎ ((status ≡ 3) ⊎ ((status ≡ 4) ⊎ ((status ≡ 5) ⊎ ((status ≡ 7) ⊎ (status ≡ 10))))))
 
+-- the most bytes of input that are run
+abbrev pub input_limit : ℕ
+input_limit = 1073741824
+
 -- These bytes were taken from a source: the next of those left, where it tells them, and as many as it
 -- counted.
 pub record Takes {S : Type 0} (left : S → Option (List ℕ)) (given : S → ℕ) (old new : S) (bytes : List ℕ) : Type 0 where
@@ -25,10 +29,6 @@ pub record WroteSome (held_old held_new : Option (List ℕ)) (text : List ℕ �
   pub left : List ℕ
   pub parts : bytes ≡ run ++ left
   pub written : Appends held_old held_new (text run)
-
--- the most bytes of input that are run
-abbrev pub input_limit : ℕ
-input_limit = 1073741824
 
 module _ {S K : Type 0} (left : S → Option (List ℕ)) (given : S → ℕ) (input input_new : S) (held : K → Option (List ℕ)) (out out_new : K) (text : List ℕ → List ℕ) where
   -- some bytes were taken, and this text of them was written

@@ -8,7 +8,7 @@ use crate::words::Names;
 use gate_outside::{Shelf, ShelfError};
 use std::alloc::Global;
 
-/// Why a run has not all its files.
+/// Why a run doesn't have all its files.
 #[derive(Debug, Drop)]
 pub(crate) enum FileStop {
     /// No file has the schema's name.
@@ -27,13 +27,17 @@ pub(crate) fn find_files<F: Shelf>(
     names: &Names<'_>,
     files: &mut F,
 ) -> Result<(), FileStop>
-    ensures held { OnOk result (IsHeld (F.holds files.old) names.now.schema.now × IsHeld (F.holds files.old) names.now.rules.now) }
+    ensures held { OnOk result
+        (IsHeld (F.holds files.old) names.now.schema.now × IsHeld (F.holds files.old) names.now.rules.now) }
     ensures no_schema { IsErrOf result FileStop.NoSchema →
-        Rose (F.missing files.old) (F.missing files.new) × IsMissing (F.holds files.old) names.now.schema.now }
+        Rose (F.missing files.old) (F.missing files.new)
+        × IsMissing (F.holds files.old) names.now.schema.now }
     ensures no_rules { IsErrOf result FileStop.NoRules →
         Rose (F.missing files.old) (F.missing files.new)
-        × (IsHeld (F.holds files.old) names.now.schema.now × IsMissing (F.holds files.old) names.now.rules.now) }
+        × (IsHeld (F.holds files.old) names.now.schema.now
+        × IsMissing (F.holds files.old) names.now.rules.now) }
     ensures failed { IsErrOf result FileStop.Shelf → Rose (F.faults files.old) (F.faults files.new) }
+    ensures kept { F.holds files.new ≡ F.holds files.old }
 {
     match files.get(alloc, names.schema) {
         Ok(_) => {}

@@ -21,7 +21,7 @@ pub(crate) struct Lines {
     gate: Gate,
     number: u64,
     rest: Bytes,
-    /// What the last line wrote, kept for its memory.
+    /// The text of the last line that was run, whose memory the next one uses again.
     text: Bytes,
 }
 
@@ -49,10 +49,12 @@ impl Lines {
         }
     }
 
-    /// Takes the next bytes of the input.
+    /// Takes the next bytes of the input, and runs each line that ends among them. A line that lies
+    /// whole among them is run where it lies. After an error this is only to be dropped.
     pub(crate) fn take<O: Sink>(&mut self, bytes: &[u8], out: &mut O) -> Result<(), LineStop>
         requires { self.old.number + length bytes.now < 2 ^ 64 }
-        ensures text { OnOk result (Appends (O.held out.old) (O.held out.new) (text_after self.old bytes.now)) }
+        ensures text { OnOk result
+            (Appends (O.held out.old) (O.held out.new) (text_after self.old bytes.now)) }
         ensures progress { OnOk result (self.new ≡ progress_after self.old bytes.now) }
         ensures sink { IsErrOf result LineStop.Sink →
             Rose (O.faults out.old) (O.faults out.new)
@@ -73,7 +75,8 @@ impl Lines {
     /// Ends the line with these bytes, and begins the next.
     fn end_line<O: Sink>(&mut self, ending: &[u8], out: &mut O) -> Result<(), LineStop>
         requires { self.old.number + 1 < 2 ^ 64 }
-        ensures text { OnOk result (Appends (O.held out.old) (O.held out.new) (line_here (grown_by self.old ending.now)).text) }
+        ensures text { OnOk result
+            (Appends (O.held out.old) (O.held out.new) (line_here (grown_by self.old ending.now)).text) }
         ensures progress { OnOk result (self.new ≡ next_line (grown_by self.old ending.now)) }
         ensures sink { IsErrOf result LineStop.Sink →
             Rose (O.faults out.old) (O.faults out.new)
@@ -85,35 +88,26 @@ impl Lines {
             run_line(&mut self.gate, self.number, ending, &mut self.text, out)?;
         } else {
             self.rest.append(ending)?;
-            run_line(
-                &mut self.gate,
-                self.number,
-                self.rest.as_slice(),
-                &mut self.text,
-                out,
-            )?;
+            let whole = self.rest.as_slice();
+            run_line(&mut self.gate, self.number, whole, &mut self.text, out)?;
             self.rest.clear();
         }
         self.number += 1;
         Ok(())
     }
 
-    /// Runs the last line, which no line feed ends. An empty one is blank.
+    /// Runs the last line, which no line feed ends. Where there is none, it is blank.
     pub(crate) fn finish<O: Sink>(&mut self, out: &mut O) -> Result<(), LineStop>
-        ensures text { OnOk result (Appends (O.held out.old) (O.held out.new) (line_here self.old).text) }
+        ensures text { OnOk result
+            (Appends (O.held out.old) (O.held out.new) (line_here self.old).text) }
         ensures sink { IsErrOf result LineStop.Sink →
             Rose (O.faults out.old) (O.faults out.new)
             × WritesFront (O.held out.old) (O.held out.new) (line_here self.old).text }
         ensures memory { IsErrOf result LineStop.Memory → out.new ≡ out.old }
         ensures later { O.faults out.old ≤ O.faults out.new }
     {
-        run_line(
-            &mut self.gate,
-            self.number,
-            self.rest.as_slice(),
-            &mut self.text,
-            out,
-        )
+        let line = self.rest.as_slice();
+        run_line(&mut self.gate, self.number, line, &mut self.text, out)
     }
 }
 
@@ -125,7 +119,8 @@ fn run_line<O: Sink>(
     text: &mut Bytes,
     out: &mut O,
 ) -> Result<(), LineStop>
-    ensures text { OnOk result (Appends (O.held out.old) (O.held out.new) (line_run number line.now gate.old).text) }
+    ensures text { OnOk result
+        (Appends (O.held out.old) (O.held out.new) (line_run number line.now gate.old).text) }
     ensures state { OnOk result (gate.new ≡ (line_run number line.now gate.old).state) }
     ensures sink { IsErrOf result LineStop.Sink →
         Rose (O.faults out.old) (O.faults out.new)

@@ -5,7 +5,7 @@ ghost use Rattle.std.specs.Prelude.{◌≡◌, ◌+◌, ◌≤◌, ◌^◌, ℕ,
 ghost use Rattle.std.specs.Io.KnownBytes.{IsAtEnd};
 ghost use Rattle.fault_causes.specs.Causes.{Rose};
 ghost use Rattle.gate_machine.specs.Runs.{run_text};
-ghost use Rattle.gateway.specs.Lines.{whole_lines_text, first_lines_text};
+ghost use Rattle.gateway.specs.Lines.{whole_lines_text, first_lines_text, full_text};
 ghost use Rattle.gateway.specs.Run.{Ran, RanFront};
 
 use crate::lines::Lines;
@@ -13,7 +13,8 @@ use crate::stop::{LineStop, Stop};
 use gate_outside::{Sink, Source};
 use std::alloc::Global;
 
-/// Reads the input to its end, or to one byte past the limit, and writes what its lines write.
+/// Reads the input to its end, or to one byte past the limit, and writes what its lines write. No
+/// line's number is more than one above the bytes before it, so the limit keeps it within a `u64`.
 pub(crate) fn run_lines<I: Source, O: Sink>(
     alloc: Global,
     limit: usize,
@@ -21,7 +22,8 @@ pub(crate) fn run_lines<I: Source, O: Sink>(
     out: &mut O,
 ) -> Result<(), Stop>
     requires { limit ≤ 2 ^ 40 }
-    ensures finished { OnOk result (Ran I.left I.given input.old input.new O.held out.old out.new run_text) }
+    ensures finished { OnOk result
+        (Ran I.left I.given input.old input.new O.held out.old out.new run_text) }
     ensures ended { OnOk result ((I.ended input.new ≡ true) × IsAtEnd (I.left input.new)) }
     ensures within { OnOk result (I.given input.new ≤ I.given input.old + limit) }
     ensures source { IsErrOf result Stop.Source →
@@ -29,14 +31,16 @@ pub(crate) fn run_lines<I: Source, O: Sink>(
         × Ran I.left I.given input.old input.new O.held out.old out.new whole_lines_text }
     ensures past_limit { IsErrOf result Stop.Limit →
         (I.given input.new ≡ I.given input.old + (limit + 1))
-        × Ran I.left I.given input.old input.new O.held out.old out.new (λ bytes. whole_lines_text (take limit bytes)) }
+        × Ran I.left I.given input.old input.new O.held out.old out.new
+        (λ bytes. whole_lines_text (take limit bytes)) }
     ensures sink { IsErrOf result (Stop.Line LineStop.Sink) →
-        Rose (O.faults out.old) (O.faults out.new)
-        × RanFront I.left I.given input.old input.new O.held out.old out.new run_text }
+        Rose (O.faults out.old) (O.faults out.new) }
     ensures memory { IsErrOf result (Stop.Line LineStop.Memory) →
-        (count : ℕ) × Ran I.left I.given input.old input.new O.held out.old out.new (first_lines_text count) }
-    ensures at_most { I.given input.new ≤ I.given input.old + (limit + 1) }
+        (count : ℕ)
+        × Ran I.left I.given input.old input.new O.held out.old out.new (first_lines_text limit count) }
+    ensures front { RanFront I.left I.given input.old input.new O.held out.old out.new (full_text limit) }
     ensures later { O.faults out.old ≤ O.faults out.new }
+    ensures at_most { I.given input.new ≤ I.given input.old + (limit + 1) }
 {
     let mut lines = Lines::new(alloc);
     let mut buffer = [0; 4096];

@@ -2,7 +2,7 @@
 
 ghost use Rattle.std.specs.Prelude.{◌≡◌, ◌==◌, ◌∷◌, ◌++◌, MatchOption, position};
 ghost use Rattle.gate_machine.specs.Runs as spec;
-ghost use Rattle.gateway.specs.Lines.{HasNoFeed};
+ghost use Rattle.gateway.specs.Lines.{HasNoLineFeed};
 
 /// Whether a line has spaces, tabs and carriage returns alone.
 pub(crate) fn is_blank(line: &[u8]) -> bool
@@ -15,8 +15,8 @@ pub(crate) fn is_blank(line: &[u8]) -> bool
 /// The bytes before the first line feed, and those behind it.
 pub(crate) fn split_line(bytes: &[u8]) -> Option<(&[u8], &[u8])>
     ensures { MatchOption result
-        (HasNoFeed bytes.now)
-        (λ parts. HasNoFeed parts.0.now × (bytes.now ≡ parts.0.now ++ 10 ∷ parts.1.now)) }
+        (HasNoLineFeed bytes.now)
+        (λ parts. HasNoLineFeed parts.0.now × (bytes.now ≡ parts.0.now ++ 10 ∷ parts.1.now)) }
 {
     let at = first_line_feed(bytes)?;
     Some((&bytes[..at], &bytes[at + 1..]))

@@ -15,13 +15,13 @@ pub(crate) const NO_RULES: &[u8] =
 
 pub(crate) const PAST_LIMIT: &[u8] = b"{\"out\":\"stopped\",\"status\":10}\n";
 
-/// Writes a stopped line, and gives the status of the line, or 5 where the sink fails on it.
-pub(crate) fn stop<O: Sink>(status: u8, line: &[u8], out: &mut O) -> u8
+/// Writes a stopped line, and gives its status, or 5 where the sink fails on it.
+pub(crate) fn write_stopped<O: Sink>(status: u8, line: &[u8], out: &mut O) -> u8
     requires { status ≢ 5 }
     ensures known { (result ≡ status) ⊎ (result ≡ 5) }
-    ensures told { result ≡ status → Appends (O.held out.old) (O.held out.new) line.now }
-    ensures cut { result ≡ 5 →
-        Rose (O.faults out.old) (O.faults out.new) × WritesFront (O.held out.old) (O.held out.new) line.now }
+    ensures whole { result ≡ status → Appends (O.held out.old) (O.held out.new) line.now }
+    ensures front { WritesFront (O.held out.old) (O.held out.new) line.now }
+    ensures cause { result ≡ 5 → Rose (O.faults out.old) (O.faults out.new) }
 {
     match write_all(out, line) {
         Ok(()) => status,
