@@ -1,0 +1,4 @@
+pub mod Phases
+pub mod Played
+pub mod Stages
+pub mod Turns
