@@ -1,0 +1,5 @@
+mod Splits
+mod EscapeLaws
+mod Runs
+mod KeyLaws
+mod PathLaws
