@@ -37,6 +37,12 @@ impl<T> Named<T> {
         }
     }
 
+    pub fn into_vec(self) -> Vec<(Text, T)>
+        ensures { result.items ≡ self }
+    {
+        self.pairs
+    }
+
     pub fn as_slice(&self) -> &[(Text, T)]
         ensures pairs { result.now ≡ self.now }
         ensures names { HasDistinctNames self.now }

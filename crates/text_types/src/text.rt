@@ -46,6 +46,12 @@ impl Text {
         Text { text }
     }
 
+    pub fn into_string(self) -> String
+        ensures { string_bytes result ≡ self }
+    {
+        self.text
+    }
+
     pub fn as_str(&self) -> &str
         ensures { result.now ≡ self.now }
     {
