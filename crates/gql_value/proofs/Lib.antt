@@ -1,3 +1,5 @@
 pub mod Conversion
+pub mod Escapes
 pub mod Joining
 pub mod KeyOrder
+pub mod NameOrder

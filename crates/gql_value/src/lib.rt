@@ -2,8 +2,9 @@
 //! `serde_json`, from whose values it takes over what it can tell exactly.
 //!
 //! The layer above has one contract: [`from_json`] gives the value that some JSON is, or the path of
-//! the first number in it that isn't whole, and [`write_text`] appends the text of a value or
-//! changes nothing. Want of memory is the one failure that no clause ties to a cause.
+//! the first number in it that isn't whole, [`write_text`] appends the text of a value or changes
+//! nothing, and [`sorted_text`] gives that text with members sorted by name at every depth. Want of
+//! memory is the one failure that no clause ties to a cause.
 #![tactic(auto)]
 
 mod copying;
@@ -13,6 +14,7 @@ mod json;
 mod json_error;
 mod quoting;
 mod refusal;
+mod sorting;
 #[cfg(test)]
 mod tests;
 mod value;
@@ -21,5 +23,6 @@ mod writing;
 pub use json::from_json;
 pub use json_error::JsonError;
 pub use quoting::write_quoted;
+pub use sorting::sorted_text;
 pub use value::{Members, Value, Values};
 pub use writing::write_text;

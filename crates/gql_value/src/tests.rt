@@ -1,4 +1,4 @@
-use crate::{JsonError, Members, Value, Values, from_json, write_quoted, write_text};
+use crate::{JsonError, Members, Value, Values, from_json, sorted_text, write_quoted, write_text};
 use std::alloc::Global;
 use std::test::Fail;
 use text_types::{Bytes, Text};
@@ -105,15 +105,24 @@ fn a_copy_is_the_same(rt: HostRuntime) -> Result<(), Fail> {
 }
 
 #[test]
-fn members_keep_their_order(rt: HostRuntime) -> Result<(), Fail> {
-    let mut members = Members::new(rt.alloc());
-    members.push(
-        Text::from_str(rt.alloc(), "b")?,
+fn members_keep_their_order_or_are_sorted(rt: HostRuntime) -> Result<(), Fail> {
+    let mut inner = Members::new(rt.alloc());
+    inner.push(Text::from_str(rt.alloc(), "d")?, Value::Null)?;
+    inner.push(
+        Text::from_str(rt.alloc(), "c")?,
         Value::List(Values::new(rt.alloc())),
     )?;
-    members.push(Text::from_str(rt.alloc(), "a")?, Value::Null)?;
+    let mut members = Members::new(rt.alloc());
+    members.push(Text::from_str(rt.alloc(), "b")?, Value::Obj(inner))?;
+    members.push(Text::from_str(rt.alloc(), "a")?, Value::Int(1))?;
+    let value = Value::Obj(members);
     let mut out = Bytes::new(rt.alloc());
-    write_text(&Value::Obj(members), &mut out)?;
-    assert_eq!(rt; out.as_slice(), b"{\"b\":[],\"a\":null}".as_slice());
+    write_text(&value, &mut out)?;
+    assert_eq!(rt;
+        out.as_slice(),
+        b"{\"b\":{\"d\":null,\"c\":[]},\"a\":1}".as_slice()
+    );
+    let sorted = sorted_text(rt.alloc(), &value)?;
+    assert_eq!(rt; sorted.as_str(), "{\"a\":1,\"b\":{\"c\":[],\"d\":null}}");
     Ok(())
 }
