@@ -3,3 +3,4 @@ pub mod Escapes
 pub mod Joining
 pub mod KeyOrder
 pub mod NameOrder
+pub mod Responses
