@@ -1,0 +1,6 @@
+pub mod Decoding
+pub mod Folds
+pub mod HeadLaws
+pub mod LineCounts
+pub mod Numbers
+pub mod Pieces

@@ -1,0 +1,6 @@
+pub mod Answers
+pub mod Bodies
+pub mod Chunks
+pub mod Fetching
+pub mod Framing
+pub mod Heads

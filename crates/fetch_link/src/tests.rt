@@ -1,0 +1,96 @@
+use crate::{Fetch, Progress, reply_text, request_text};
+use gql_value::{Fault, Outcome};
+use std::alloc::Global;
+use std::test::Fail;
+use text_types::Text;
+
+fn told(outcome: &Outcome) -> &'static str {
+    match outcome {
+        Outcome::Body { .. } => "body",
+        Outcome::Bad(Fault::F1) => "F1",
+        Outcome::Bad(Fault::F2) => "F2",
+        Outcome::Bad(Fault::F6) => "F6",
+        Outcome::Bad(Fault::F7) => "F7",
+        Outcome::Bad(Fault::F8) => "F8",
+        Outcome::Bad(_) => "another",
+    }
+}
+
+/// What a response comes to that comes in pieces of this size, and then the close.
+fn outcome_of_pieces(alloc: Global, message: &[u8], size: usize) -> Result<Outcome, Fail> {
+    let mut fetch = Fetch::start(alloc);
+    let mut rest = message;
+    while !rest.is_empty() {
+        let (piece, behind) = rest.split_at(size.clamp(1, rest.len()));
+        if let Progress::Done(outcome) = fetch.poll(piece)? {
+            return Ok(outcome);
+        }
+        rest = behind;
+    }
+    Ok(fetch.ended()?)
+}
+
+#[test]
+fn a_response_comes_to_the_same_in_all_pieces(rt: HostRuntime) -> Result<(), Fail> {
+    let rows = [
+        (
+            "HTTP/1.1 200 OK\r\nContent-Length: 2\r\nContent-Length: 3\r\n\r\n",
+            "F7",
+        ),
+        (
+            "HTTP/1.1 200 OK\r\nContent-Length: 2\r\ncontent-length: 2\r\n\r\n{}",
+            "F2",
+        ),
+        ("HTTP/1.1 200 OK\r\nContent-Length: 8388609\r\n\r\n", "F8"),
+        (
+            "HTTP/1.1 200 OK\r\nTransfer-Encoding: chunked\r\n\r\nzz\r\n",
+            "F7",
+        ),
+        ("HTTP/1.1 200 OK\r\nTransfer-Encoding: gzip\r\n\r\n", "F7"),
+        ("HTTP/2.0 200 OK\r\n\r\n", "F7"),
+        ("HTTP/1.1 204 No Content\r\n\r\n", "F1"),
+        (
+            "HTTP/1.1 200 OK\r\nContent-Length: 46\r\n\r\n{\"data\":{\"me\":{\"__typename\":\"User\",\"id\":\"7\"}}}",
+            "body",
+        ),
+        (
+            "HTTP/1.1 200 OK\r\nContent-Length: 46\r\n\r\n{\"data\":{\"me\":{\"__typename\":\"User\",\"id\":\"7\"}}",
+            "F6",
+        ),
+        (
+            "HTTP/1.1 100 Continue\r\n\r\nHTTP/1.1 503 Wait\r\nContent-Length: 0\r\n\r\n",
+            "F6",
+        ),
+        (
+            "HTTP/1.1 200 OK\nTransfer-Encoding: ChunKed\nContent-Length: 9\n\n5;x=y\r\n{\"dat\r\n0F\r\na\":{\"me\":null}}\r\n0\r\nA: b\r\n\r\n",
+            "body",
+        ),
+        ("HTTP/1.0 200\r\n\r\n{\"data\":null}", "body"),
+    ];
+    for (message, expected) in rows {
+        for size in 1..=message.len() {
+            let outcome = outcome_of_pieces(rt.alloc(), message.as_bytes(), size)?;
+            assert_eq!(rt;
+                told(&outcome),
+                expected,
+                "at {message} in pieces of {size}"
+            );
+        }
+    }
+    Ok(())
+}
+
+#[test]
+fn messages_are_written_as_they_are_sent(rt: HostRuntime) -> Result<(), Fail> {
+    let document = Text::from_str(rt.alloc(), "{me{id}}")?;
+    let variables = Text::from_str(rt.alloc(), "{}")?;
+    let request = request_text(rt.alloc(), 4000, &document, None, &variables)?;
+    let sent =
+        "POST /graphql HTTP/1.1\r\nHost: 127.0.0.1:4000\r\nContent-Type: application/json\r\nAccept: application/json\r\nContent-Length: 56\r\nConnection: close\r\n\r\n{\"query\":\"{me{id}}\",\"operationName\":null,\"variables\":{}}";
+    assert_eq!(rt; request.as_slice(), sent.as_bytes());
+    let reply = reply_text(rt.alloc(), 200, b"{}")?;
+    let told =
+        "HTTP/1.1 200 OK\r\nContent-Type: application/json\r\nContent-Length: 2\r\nConnection: close\r\n\r\n{}";
+    assert_eq!(rt; reply.as_slice(), told.as_bytes());
+    Ok(())
+}

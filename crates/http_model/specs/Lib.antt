@@ -1,0 +1,5 @@
+pub mod Chunks
+pub mod Framing
+pub mod Heads
+pub mod Message
+pub mod Texts
