@@ -4,3 +4,4 @@ pub mod HeadLaws
 pub mod LineCounts
 pub mod Numbers
 pub mod Pieces
+pub mod Uniqueness

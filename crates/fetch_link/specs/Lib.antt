@@ -4,3 +4,4 @@ pub mod Chunks
 pub mod Fetching
 pub mod Framing
 pub mod Heads
+pub mod Laws

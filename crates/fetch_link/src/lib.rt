@@ -11,12 +11,14 @@ mod closing;
 mod fetch;
 mod framing;
 mod head;
+mod laws;
 mod reply;
 mod request;
 mod response;
 #[cfg(test)]
 mod tests;
 
+pub use laws::decoded_once;
 pub use reply::reply_text;
 pub use request::request_text;
 pub use response::{Fetch, Progress};

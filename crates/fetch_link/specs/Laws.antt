@@ -1,0 +1,7 @@
+-- What all bytes so far come to is told once and for all.
+use Rattle.std.specs.Prelude.{◌≡◌, ℕ, List}
+use Rattle.http_model.specs.Message.{Progress, Decoded}
+
+-- the same bytes come to one thing alone, so it can't depend on how they were cut
+abbrev pub IsDecodedOnce : Type 0
+IsDecodedOnce = (bytes : List ℕ) (one other : Progress) → Decoded bytes one → Decoded bytes other → one ≡ other
