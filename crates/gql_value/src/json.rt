@@ -25,7 +25,7 @@ pub fn from_json(alloc: Global, json: &serde_json::Value) -> Result<Value, JsonE
 }
 
 #[cycle(convert)]
-fn convert(alloc: Global, json: &serde_json::Value) -> Result<Value, Refusal>
+pub(crate) fn convert(alloc: Global, json: &serde_json::Value) -> Result<Value, Refusal>
     ensures value { IfOk result (λ v. data_of v ≡ view json.now) }
     ensures whole { OnOk result (not_whole (view json.now) ≡ None) }
     ensures refused { IfErr result (IsStepsOf (not_whole (view json.now))) }
@@ -92,7 +92,7 @@ fn copy_text(alloc: Global, text: &String) -> Result<Text, Memory>
     Text::from_str(alloc, text.as_str())
 }
 
-fn index_text(alloc: Global, at: usize) -> Result<Text, Memory>
+pub(crate) fn index_text(alloc: Global, at: usize) -> Result<Text, Memory>
     ensures { IfOk result (λ digits. digits ≡ decimal at) }
 {
     Ok(Text::from_string(at.to_string(alloc)?))

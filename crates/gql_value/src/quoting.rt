@@ -1,4 +1,4 @@
-ghost use Rattle.std.specs.Prelude.{◌≡◌, [], ◌∷◌, ◌++◌, ◌<◌, ◌≤◌, OnOk, OnErr, length, slice_index, take, flat_map};
+ghost use Rattle.std.specs.Prelude.{◌≡◌, [], ◌∷◌, ◌++◌, ◌<◌, ◌≤◌, OnOk, OnErr, length, slice_index, take, flat_map, IsUtf8};
 ghost use Rattle.std.specs.Bool.{OnTrue, OnFalse};
 ghost use Rattle.std.specs.Char.{digit_char};
 ghost use Rattle.gql_value.specs.Text.{escaped_byte, IsEscaped, quoted};
@@ -21,6 +21,7 @@ pub fn write_quoted(text: &Text, out: &mut Bytes) -> Result<(), Memory>
 }
 
 pub(crate) fn append_quoted(text: &Text, out: &mut Bytes) -> Result<(), Memory>
+    ensures utf8 { OnOk result (IsUtf8 (quoted text.now)) }
     ensures ok { OnOk result (out.new ≡ out.old ++ quoted text.now) }
     ensures err { OnErr result (IsFront out.old out.new) }
 {

@@ -1,4 +1,7 @@
-use crate::{JsonError, Members, Value, Values, from_json, write_quoted, write_text};
+use crate::{
+    Fault, JsonError, Members, Outcome, Value, Values, from_json, outcome_of, sorted_text,
+    write_quoted, write_text,
+};
 use std::alloc::Global;
 use std::test::Fail;
 use text_types::{Bytes, Text};
@@ -105,15 +108,77 @@ fn a_copy_is_the_same(rt: HostRuntime) -> Result<(), Fail> {
 }
 
 #[test]
-fn members_keep_their_order(rt: HostRuntime) -> Result<(), Fail> {
-    let mut members = Members::new(rt.alloc());
-    members.push(
-        Text::from_str(rt.alloc(), "b")?,
+fn members_keep_their_order_or_are_sorted(rt: HostRuntime) -> Result<(), Fail> {
+    let mut inner = Members::new(rt.alloc());
+    inner.push(Text::from_str(rt.alloc(), "d")?, Value::Null)?;
+    inner.push(
+        Text::from_str(rt.alloc(), "c")?,
         Value::List(Values::new(rt.alloc())),
     )?;
-    members.push(Text::from_str(rt.alloc(), "a")?, Value::Null)?;
+    let mut members = Members::new(rt.alloc());
+    members.push(Text::from_str(rt.alloc(), "b")?, Value::Obj(inner))?;
+    members.push(Text::from_str(rt.alloc(), "a")?, Value::Int(1))?;
+    let value = Value::Obj(members);
     let mut out = Bytes::new(rt.alloc());
-    write_text(&Value::Obj(members), &mut out)?;
-    assert_eq!(rt; out.as_slice(), b"{\"b\":[],\"a\":null}".as_slice());
+    write_text(&value, &mut out)?;
+    assert_eq!(rt;
+        out.as_slice(),
+        b"{\"b\":{\"d\":null,\"c\":[]},\"a\":1}".as_slice()
+    );
+    let sorted = sorted_text(rt.alloc(), &value)?;
+    assert_eq!(rt; sorted.as_str(), "{\"a\":1,\"b\":{\"c\":[],\"d\":null}}");
+    Ok(())
+}
+
+fn told(alloc: Global, outcome: Outcome) -> Result<Text, Fail> {
+    let told = match outcome {
+        Outcome::Body { answer, errors } => {
+            let answer = sorted_text(alloc, &answer)?;
+            let errors = sorted_text(alloc, &errors)?;
+            format!(in alloc; "{} {}", answer.as_str(), errors.as_str())?
+        }
+        Outcome::Bad(Fault::F3 { path }) => format!(in alloc; "F3 {}", path.as_str())?,
+        Outcome::Bad(Fault::F4 { path }) => format!(in alloc; "F4 {}", path.as_str())?,
+        Outcome::Bad(fault) => format!(in alloc; "{fault:?}")?,
+    };
+    Ok(Text::from_string(told))
+}
+
+#[test]
+fn a_response_comes_to_an_answer_or_a_fault(rt: HostRuntime) -> Result<(), Fail> {
+    let rows = [
+        (200, "{\"data\":{\"a\":1}}", "{\"a\":1} []"),
+        (299, "{\"data\":null,\"errors\":null,\"x\":1.5}", "null []"),
+        (
+            200,
+            "{\"errors\":[{\"message\":\"no\",\"path\":[\"a\",0]}]}",
+            "null [{\"message\":\"no\",\"path\":[\"a\",0]}]",
+        ),
+        (503, "{\"data\":null}", "F6"),
+        (404, "", "F5 { status: 404 }"),
+        (200, "", "F1"),
+        (200, "{\"errors\":[]}", "F2"),
+        (200, "[]", "F2"),
+        (
+            200,
+            "{\"data\":{\"a\":[1,1.5]},\"errors\":1.5}",
+            "F3 data.a.1",
+        ),
+        (
+            200,
+            "{\"data\":null,\"errors\":[{\"extensions\":{\"x\":0.5}}]}",
+            "F3 errors.0.extensions.x",
+        ),
+        (200, "{\"data\":null,\"errors\":{}}", "F4 errors"),
+        (
+            200,
+            "{\"data\":null,\"errors\":[{\"message\":\"a\"},{\"message\":\"b\",\"path\":[null]}]}",
+            "F4 errors.1",
+        ),
+    ];
+    for (status, body, expected) in rows {
+        let outcome = outcome_of(rt.alloc(), status, body.as_bytes())?;
+        assert_eq!(rt; told(rt.alloc(), outcome)?.as_str(), expected, "at {body}");
+    }
     Ok(())
 }

@@ -1,0 +1,9 @@
+use Rattle.std.proofs.Common.{refl}
+use Rattle.gql_value.proofs.Responses.{json_of_read, json_of_refused}
+use Rattle.gql_value.proofs.outcome.outcome_of_text.Goals as goal
+
+pub returns-in-Ok : goal.returns-in-Ok
+returns-in-Ok c = rw (json_of_read _ _ c.in-Ok.ensures.ok.0 c.in-Ok.ensures.ok.1) c.outcome_of_json.ensures
+
+pub returns-else-is_memory : goal.returns-else-is_memory
+returns-else-is_memory c = rw (json_of_refused _ (c.in-Err.ensures.err (λ memory. cc (c.is_memory.ensures.1 memory)))) refl
