@@ -13,5 +13,7 @@ mod placing;
 mod reading;
 mod span;
 mod waking;
+#[cfg(test)]
+mod tests;
 
 pub use index::{Index, Subs};

@@ -19,7 +19,7 @@ mod tests;
 
 pub use coverage::{covers, covers_texts};
 pub use entity::{embedded, keyed, root_key};
-pub use field::{field_key_of, plain_field_key};
+pub use field::{field_key, plain_field_key};
 pub use cache_model::{Cell, EntityKey, FieldKey, Link, Links, Visited, Write, Writes};
 pub use laws::{different_keys, equal_embedded_keys, equal_keyed_keys};
 pub use lookup::Lookup;

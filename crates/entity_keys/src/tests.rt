@@ -2,7 +2,7 @@ ghost use Rattle.std.specs.Prelude.{◌≡◌, bytes_eq, ◌&&◌, find};
 ghost use Rattle.std.specs.Option.{option_copied, option_map};
 
 use crate::{
-    Cell, EntityKey, FieldKey, KeyRules, Lookup, Steps, Write, covers, embedded, field_key_of,
+    Cell, EntityKey, FieldKey, KeyRules, Lookup, Steps, Write, covers, embedded, field_key,
     key_of_object, keyed, plain_field_key, root_key,
 };
 use gql_value::{Members, Value};
@@ -44,10 +44,12 @@ fn embedded_keys_have_their_path(rt: HostRuntime) -> Result<(), Fail> {
     let todos = plain_field_key(&text(rt.alloc(), "todos")?)?;
     let key = embedded(&parent, &todos, &[0], &name)?;
     assert_eq!(rt; key.as_text().as_str(), "Query.todos.0@Todo");
-    let rated = field_key_of(
-        &text(rt.alloc(), "todos")?,
-        &text(rt.alloc(), "{\"above\":\"1.5\"}")?,
+    let mut arguments = Members::new(rt.alloc());
+    arguments.push(
+        text(rt.alloc(), "above")?,
+        Value::Text(text(rt.alloc(), "1.5")?),
     )?;
+    let rated = field_key(&text(rt.alloc(), "todos")?, &arguments)?;
     let key = embedded(&parent, &rated, &[10, 0], &name)?;
     assert_eq!(rt;
         key.as_text().as_str(),
