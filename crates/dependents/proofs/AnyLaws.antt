@@ -1,5 +1,5 @@
 -- What follows from an element of a list that passes a test.
-use Rattle.std.proofs.Common.{◌≡◌, Bool, true, false, ◌||◌, ◌&&◌, List, [], ◌∷◌, refl, sym, ◌∙◌, ap, ⊎_elim}
+use Rattle.std.proofs.Common.{◌≡◌, Bool, true, false, ◌||◌, List, [], ◌∷◌, refl, sym, ◌∙◌, ap, ⊎_elim}
 use Rattle.std.specs.List.{list_any, filter}
 use Rattle.std.proofs.lemmas.Bool.{false≢true, both_ways, or_cases, or_left, or_right, cases_Bool, cond-true, cond-false, false_from_ne_true}
 
@@ -9,29 +9,29 @@ pub from_any : {X G : Type 0} (e : X → X → Bool) → ((x : X) → e x x ≡ 
 from_any e same p [] next is = absurd (false≢true is)
 from_any e same p (x ∷ xs) next is =
     ⊎_elim
-        (λ here. next x (or_left (e x x) (list_any (e x) xs) (same x)) here)
-        (λ there. from_any e same p xs (λ y among passes. next y (or_right (e y x) (list_any (e y) xs) among) passes) there)
-        (or_cases (p x) (list_any p xs) is)
+    (λ here. next x (or_left (e x x) (list_any (e x) xs) (same x)) here)
+    (λ there. from_any e same p xs (λ y among passes. next y (or_right (e y x) (list_any (e y) xs) among) passes) there)
+    (or_cases (p x) (list_any p xs) is)
 
 -- a weaker test passes too
 pub any_weaker : {X : Type 0} (e p : X → Bool) (xs : List X) → ((x : X) → e x ≡ true → p x ≡ true) → list_any e xs ≡ true → list_any p xs ≡ true
 any_weaker e p [] more is = is
 any_weaker e p (x ∷ xs) more is =
     ⊎_elim
-        (λ here. or_left (p x) (list_any p xs) (more x here))
-        (λ there. or_right (p x) (list_any p xs) (any_weaker e p xs more there))
-        (or_cases (e x) (list_any e xs) is)
+    (λ here. or_left (p x) (list_any p xs) (more x here))
+    (λ there. or_right (p x) (list_any p xs) (any_weaker e p xs more there))
+    (or_cases (e x) (list_any e xs) is)
 
 -- where a filter keeps what passes, it changes nothing
 pub any_filter : {X : Type 0} (p q : X → Bool) (xs : List X) → ((x : X) → p x ≡ true → q x ≡ true) → list_any p (filter q xs) ≡ list_any p xs
 any_filter p q [] within = refl
 any_filter p q (x ∷ xs) within =
     ⊎_elim
-        (λ yes. ap (list_any p) (cond-true (q x) (x ∷ filter q xs) (filter q xs) yes) ∙ ap (λ b. p x || b) (any_filter p q xs within))
-        (λ no.
-            let fails : p x ≡ false = false_from_ne_true (p x) (λ t. both_ways (q x) no (within x t)) in
-            ap (list_any p) (cond-false (q x) (x ∷ filter q xs) (filter q xs) no) ∙ any_filter p q xs within ∙ ap (λ b. b || list_any p xs) (sym fails))
-        (cases_Bool (q x))
+    (λ yes. ap (list_any p) (cond-true (q x) (x ∷ filter q xs) (filter q xs) yes) ∙ ap (λ b. p x || b) (any_filter p q xs within))
+    (λ no.
+    let fails : p x ≡ false = false_from_ne_true (p x) (λ t. both_ways (q x) no (within x t)) in
+    ap (list_any p) (cond-false (q x) (x ∷ filter q xs) (filter q xs) no) ∙ any_filter p q xs within ∙ ap (λ b. b || list_any p xs) (sym fails))
+    (cases_Bool (q x))
 
 -- two tests at once
 any_or : {X : Type 0} (f g : X → Bool) (xs : List X) → (list_any f xs || list_any g xs) ≡ list_any (λ x. f x || g x) xs
@@ -58,6 +58,6 @@ any_exchange f (x ∷ xs) ys = ap (λ b. list_any (f x) ys || b) (any_exchange f
 pub same_truth : (a b : Bool) → (a ≡ true → b ≡ true) → (b ≡ true → a ≡ true) → a ≡ b
 same_truth a b there back =
     ⊎_elim
-        (λ yes. yes ∙ sym (there yes))
-        (λ no. no ∙ sym (false_from_ne_true b (λ t. both_ways a no (back t))))
-        (cases_Bool a)
+    (λ yes. yes ∙ sym (there yes))
+    (λ no. no ∙ sym (false_from_ne_true b (λ t. both_ways a no (back t))))
+    (cases_Bool a)

@@ -1,6 +1,6 @@
 -- Places that tie are equal.
-use Rattle.std.proofs.Common.{◌≡◌, ℕ, Bool, true, false, ◌&&◌, List, refl, sym, ◌∙◌, ap}
-use Rattle.std.specs.Ordering.{nat_cmp, bool_cmp, ordering_then, is_eq}
+use Rattle.std.proofs.Common.{◌≡◌, ℕ, Bool, true, false, List, refl, ◌∙◌, ap}
+use Rattle.std.specs.Ordering.{nat_cmp, bool_cmp, is_eq}
 use Rattle.std.specs.declared.cmp.Ordering.{Ordering}
 use Rattle.std.specs.declared.cmp.Ordering.TheVariants.{Less, Equal, Greater}
 use Rattle.std.specs.Cmp.{IsTotalOrder, nat_cmp_total, bool_cmp_total, on_total, then_total, tied_then, tied_itself}
@@ -14,8 +14,8 @@ use Rattle.dependents.specs.Places.{place_cmp}
 pub place_cmp_total : IsTotalOrder place_cmp
 place_cmp_total =
     then_total (on_total (λ (p : Place). p.entity) nat_list_cmp_total)
-        (then_total (on_total (λ (p : Place). p.field) nat_list_cmp_total)
-            (then_total (on_total (λ (p : Place). p.sub) nat_cmp_total) (on_total (λ (p : Place). p.turn) bool_cmp_total)))
+    (then_total (on_total (λ (p : Place). p.field) nat_list_cmp_total)
+    (then_total (on_total (λ (p : Place). p.sub) nat_cmp_total) (on_total (λ (p : Place). p.turn) bool_cmp_total)))
 
 equal_from_tied : (o : Ordering) → is_eq o ≡ true → o ≡ Equal
 equal_from_tied Less is = absurd (false≢true is)
@@ -56,8 +56,8 @@ same_parts p q is =
     let by_field = and_parts (is_eq (text_cmp p.field q.field)) _ (tied_then _ _ ∙ by_entity.1) in
     let by_query = and_parts (is_eq (nat_cmp p.sub q.sub)) _ (tied_then _ _ ∙ by_field.1) in
     record {
-      entity = same_text p.entity q.entity by_entity.0
-    ; field = same_text p.field q.field by_field.0
-    ; sub = same_number p.sub q.sub by_query.0
-    ; turn = same_turn p.turn q.turn by_query.1
+      entity = same_text p.entity q.entity by_entity.0;
+      field = same_text p.field q.field by_field.0;
+      sub = same_number p.sub q.sub by_query.0;
+      turn = same_turn p.turn q.turn by_query.1;
     }

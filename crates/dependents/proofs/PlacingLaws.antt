@@ -23,7 +23,7 @@ use Rattle.dependents.proofs.SpanLaws.{covered_within}
 none_of_front : {X : Type 0} (p : X → Bool) (xs : List X) (n : ℕ) → list_any p xs ≡ false → list_any p (take n xs) ≡ false
 none_of_front p xs n none =
     (or_parts (list_any p (take n xs)) (list_any p (drop n xs))
-        (sym (list_any-append p (take n xs) (drop n xs)) ∙ ap (list_any p) (take-append-drop n xs) ∙ none)).0
+    (sym (list_any-append p (take n xs) (drop n xs)) ∙ ap (list_any p) (take-append-drop n xs) ∙ none)).0
 
 or_none : (b : Bool) → (b || false) ≡ b
 or_none true = refl
@@ -139,4 +139,4 @@ all_looked_at write sub start end places done now old starts ends all is =
     ∙ ap (λ ps. old || list_any test ps) all
     ∙ (λ i. old || list_any test (sorted.keys_between place_cmp (Included (starts i)) (Excluded (ends i)) places))
     ∙ ap (λ b. old || b) (any_filter test (range_contains place_cmp (Included (start_of write)) (Excluded (end_of write))) places.keys
-        (λ p wakes. covered_within write p (and_parts (is_eq (nat_cmp p.sub sub)) (covers write p.entity p.field) wakes).1))
+    (λ p wakes. covered_within write p (and_parts (is_eq (nat_cmp p.sub sub)) (covers write p.entity p.field) wakes).1))

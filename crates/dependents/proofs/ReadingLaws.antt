@@ -64,9 +64,9 @@ placed_parts : (sub : ℕ) (turn : Bool) (cells : VisitedCells) (p : Place) → 
 placed_parts sub turn [] p is = absurd (false≢true is)
 placed_parts sub turn (cell ∷ cells) p is =
     ⊎_elim
-        (λ here. let parts = same_parts (place_of sub turn cell) p here in (parts.sub, parts.turn))
-        (λ there. placed_parts sub turn cells p there)
-        (or_cases _ (is_placed sub turn cells p) is)
+    (λ here. let parts = same_parts (place_of sub turn cell) p here in (parts.sub, parts.turn))
+    (λ there. placed_parts sub turn cells p there)
+    (or_cases _ (is_placed sub turn cells p) is)
 
 -- no other query's place is among them
 other_query : (sub : ℕ) (p : Place) → is_eq (nat_cmp sub p.sub) ≡ false → (turn : Bool) (cells : VisitedCells) → is_placed sub turn cells p ≡ false
@@ -120,35 +120,35 @@ replaced sub last reading o p was turn =
     let old = is_placed sub last.turn last.cells p in
     let new = is_placed sub reading.turn reading.cells p in
     ⊎_elim
-        (λ yes.
-            let same = same_number sub p.sub yes in
-            let current = current_is sub last o p same (was same) in
-            ap (λ c. (c || new) && not old) current
-            ∙ left_alone old new (λ placed. sym current ∙ apart sub reading.turn reading.cells o p (turn same) placed)
-            ∙ ap (λ s. is_placed s reading.turn reading.cells p) same
-            ∙ ap (λ x. is_current x p) (sym (cond-true (is_at (nat_cmp sub) p.sub) (Some reading) o yes)))
-        (λ no.
-            ap (λ b. (is_current o p || b) && not old) (other_query sub p no reading.turn reading.cells)
-            ∙ ap (λ b. (is_current o p || false) && not b) (other_query sub p no last.turn last.cells)
-            ∙ and_all (is_current o p || false) ∙ or_none (is_current o p)
-            ∙ ap (λ x. is_current x p) (sym (cond-false (is_at (nat_cmp sub) p.sub) (Some reading) o no)))
-        (cases_Bool (is_eq (nat_cmp sub p.sub)))
+    (λ yes.
+    let same = same_number sub p.sub yes in
+    let current = current_is sub last o p same (was same) in
+    ap (λ c. (c || new) && not old) current
+    ∙ left_alone old new (λ placed. sym current ∙ apart sub reading.turn reading.cells o p (turn same) placed)
+    ∙ ap (λ s. is_placed s reading.turn reading.cells p) same
+    ∙ ap (λ x. is_current x p) (sym (cond-true (is_at (nat_cmp sub) p.sub) (Some reading) o yes)))
+    (λ no.
+    ap (λ b. (is_current o p || b) && not old) (other_query sub p no reading.turn reading.cells)
+    ∙ ap (λ b. (is_current o p || false) && not b) (other_query sub p no last.turn last.cells)
+    ∙ and_all (is_current o p || false) ∙ or_none (is_current o p)
+    ∙ ap (λ x. is_current x p) (sym (cond-false (is_at (nat_cmp sub) p.sub) (Some reading) o no)))
+    (cases_Bool (is_eq (nat_cmp sub p.sub)))
 
 -- a first reading
 pub added : (sub : ℕ) (reading : Reading) (o : Option Reading) (p : Place) → (sub ≡ p.sub → o ≡ None)
     → (is_current o p || is_placed sub reading.turn reading.cells p) ≡ is_current (cond (is_at (nat_cmp sub) p.sub) (Some reading) o) p
 added sub reading o p was =
     ⊎_elim
-        (λ yes.
-            let same = same_number sub p.sub yes in
-            ap (λ x. is_current x p || is_placed sub reading.turn reading.cells p) (was same)
-            ∙ ap (λ s. is_placed s reading.turn reading.cells p) same
-            ∙ ap (λ x. is_current x p) (sym (cond-true (is_at (nat_cmp sub) p.sub) (Some reading) o yes)))
-        (λ no.
-            ap (λ b. is_current o p || b) (other_query sub p no reading.turn reading.cells)
-            ∙ or_none (is_current o p)
-            ∙ ap (λ x. is_current x p) (sym (cond-false (is_at (nat_cmp sub) p.sub) (Some reading) o no)))
-        (cases_Bool (is_eq (nat_cmp sub p.sub)))
+    (λ yes.
+    let same = same_number sub p.sub yes in
+    ap (λ x. is_current x p || is_placed sub reading.turn reading.cells p) (was same)
+    ∙ ap (λ s. is_placed s reading.turn reading.cells p) same
+    ∙ ap (λ x. is_current x p) (sym (cond-true (is_at (nat_cmp sub) p.sub) (Some reading) o yes)))
+    (λ no.
+    ap (λ b. is_current o p || b) (other_query sub p no reading.turn reading.cells)
+    ∙ or_none (is_current o p)
+    ∙ ap (λ x. is_current x p) (sym (cond-false (is_at (nat_cmp sub) p.sub) (Some reading) o no)))
+    (cases_Bool (is_eq (nat_cmp sub p.sub)))
 
 -- a new reading whose places are taken back
 pub undone : (sub : ℕ) (turn : Bool) (cells : VisitedCells) (o : Option Reading) (p : Place) → (sub ≡ p.sub → turn ≡ next_turn o)
@@ -161,9 +161,9 @@ pub undone_some : (sub : ℕ) (turn : Bool) (cells : VisitedCells) (o : Option R
     → (some && not (is_placed sub turn cells p)) ≡ is_current o p
 undone_some sub turn cells o p some is others =
     ⊎_elim
-        (λ placed. ap (λ b. some && not b) placed ∙ none some ∙ sym (apart sub turn cells o p (is (placed_parts sub turn cells p placed).0) placed))
-        (λ no. ap (λ b. some && not b) no ∙ and_all some ∙ others no)
-        (cases_Bool (is_placed sub turn cells p))
+    (λ placed. ap (λ b. some && not b) placed ∙ none some ∙ sym (apart sub turn cells o p (is (placed_parts sub turn cells p placed).0) placed))
+    (λ no. ap (λ b. some && not b) no ∙ and_all some ∙ others no)
+    (cases_Bool (is_placed sub turn cells p))
   where
     none : (b : Bool) → (b && false) ≡ false
     none true = refl
@@ -174,13 +174,13 @@ pub gone : (sub : ℕ) (last : Reading) (o : Option Reading) (p : Place) → (su
     → (is_current o p && not (is_placed sub last.turn last.cells p)) ≡ is_current (cond (is_at (nat_cmp sub) p.sub) None o) p
 gone sub last o p was =
     ⊎_elim
-        (λ yes.
-            let same = same_number sub p.sub yes in
-            ap (λ c. c && not (is_placed sub last.turn last.cells p)) (current_is sub last o p same (was same))
-            ∙ none_left (is_placed sub last.turn last.cells p)
-            ∙ ap (λ x. is_current x p) (sym (cond-true (is_at (nat_cmp sub) p.sub) None o yes)))
-        (λ no.
-            ap (λ b. is_current o p && not b) (other_query sub p no last.turn last.cells)
-            ∙ and_all (is_current o p)
-            ∙ ap (λ x. is_current x p) (sym (cond-false (is_at (nat_cmp sub) p.sub) None o no)))
-        (cases_Bool (is_eq (nat_cmp sub p.sub)))
+    (λ yes.
+    let same = same_number sub p.sub yes in
+    ap (λ c. c && not (is_placed sub last.turn last.cells p)) (current_is sub last o p same (was same))
+    ∙ none_left (is_placed sub last.turn last.cells p)
+    ∙ ap (λ x. is_current x p) (sym (cond-true (is_at (nat_cmp sub) p.sub) None o yes)))
+    (λ no.
+    ap (λ b. is_current o p && not b) (other_query sub p no last.turn last.cells)
+    ∙ and_all (is_current o p)
+    ∙ ap (λ x. is_current x p) (sym (cond-false (is_at (nat_cmp sub) p.sub) None o no)))
+    (cases_Bool (is_eq (nat_cmp sub p.sub)))

@@ -1,6 +1,6 @@
 -- The cells that a write covers stand in its span.
-use Rattle.std.proofs.Common.{◌≡◌, Option, ℕ, Bool, true, false, ◌&&◌, ◌==◌, not, cond, List, [], ◌∷◌, ◌++◌, refl, sym, ◌∙◌, ap, ⊎_elim, ◌⊎◌, inl, inr, take, length, arith, bytes_eq, codes, unwrap_or, ◌+◌, ◌<◌, ◌≤◌, zero, suc, Some, None}
-use Rattle.std.specs.List.{position, position_or_len}
+use Rattle.std.proofs.Common.{◌≡◌, Option, ℕ, Bool, true, false, ◌==◌, not, cond, List, [], ◌∷◌, ◌++◌, refl, sym, ◌∙◌, ap, ⊎_elim, ◌⊎◌, inl, inr, take, length, arith, bytes_eq, unwrap_or, ◌+◌, ◌<◌, ◌≤◌, zero, suc, Some, None}
+use Rattle.std.specs.List.{position_or_len}
 use Rattle.std.specs.Option.{is_some}
 use Rattle.std.specs.Ordering.{nat_cmp, bool_cmp, ordering_then, is_le, is_gt}
 use Rattle.std.specs.declared.cmp.Ordering.{Ordering}
@@ -8,7 +8,7 @@ use Rattle.std.specs.declared.cmp.Ordering.TheVariants.{Less, Equal, Greater}
 use Rattle.std.specs.declared.ops.Bound.TheVariants.{Included, Excluded}
 use Rattle.std.specs.BTreeMap.Range.{range_contains}
 use Rattle.std.specs.Cmp.{nat_cmp_total, tied_itself}
-use Rattle.std.specs.Cmp.Lexicographic.{slice_cmp, texts_ties}
+use Rattle.std.specs.Cmp.Lexicographic.{texts_ties}
 use Rattle.std.proofs.lemmas.Bool.{false≢true, and_from, cases_Bool, cases_lt, cond-true, cond-false, lt-ltb, le-ltb, eqb-true, not_from_true, not_from_false}
 use Rattle.std.proofs.lemmas.List.Sums.{prefix_len-le-length}
 use Rattle.text_types.specs.Texts.{text_cmp}
@@ -46,12 +46,12 @@ unfolding front
 name_is_front field =
     let n = position_or_len (λ b. b == 40) field in
     ap (λ k. take k field)
-        (⊎_elim
-            (λ (within : n < length field). ap (λ o. unwrap_or o (length field)) (cond-true _ _ _ (lt-ltb n (length field) within)))
-            (λ (past : length field ≤ n).
-                ap (λ o. unwrap_or o (length field)) (cond-false _ _ _ (le-ltb n (length field) past))
-                ∙ omega (arith, past, prefix_len-le-length (λ b. not (b == 40)) field))
-            (cases_lt n (length field)))
+    (⊎_elim
+    (λ (within : n < length field). ap (λ o. unwrap_or o (length field)) (cond-true _ _ _ (lt-ltb n (length field) within)))
+    (λ (past : length field ≤ n).
+    ap (λ o. unwrap_or o (length field)) (cond-false _ _ _ (le-ltb n (length field) past))
+    ∙ omega (arith, past, prefix_len-le-length (λ b. not (b == 40)) field))
+    (cases_lt n (length field)))
 
 -- a field key stands at its name or behind it
 front_is_first : (field : List ℕ) → is_gt (text_cmp (front field) field) ≡ false
@@ -59,12 +59,12 @@ unfolding front
 front_is_first [] = refl
 front_is_first (b ∷ field) =
     ⊎_elim
-        (λ yes. ap (λ k. is_gt (text_cmp (take k (b ∷ field)) (b ∷ field))) (cond-false _ _ _ (not_from_true (b == 40) yes)))
-        (λ no.
-            ap (λ k. is_gt (text_cmp (take k (b ∷ field)) (b ∷ field))) (cond-true _ _ _ (not_from_false (b == 40) no) ∙ one_more _)
-            ∙ ap (λ o. is_gt (ordering_then o (text_cmp (front field) field))) (number_itself b)
-            ∙ front_is_first field)
-        (cases_Bool (b == 40))
+    (λ yes. ap (λ k. is_gt (text_cmp (take k (b ∷ field)) (b ∷ field))) (cond-false _ _ _ (not_from_true (b == 40) yes)))
+    (λ no.
+    ap (λ k. is_gt (text_cmp (take k (b ∷ field)) (b ∷ field))) (cond-true _ _ _ (not_from_false (b == 40) no) ∙ one_more _)
+    ∙ ap (λ o. is_gt (ordering_then o (text_cmp (front field) field))) (number_itself b)
+    ∙ front_is_first field)
+    (cases_Bool (b == 40))
 
 -- and before the name with a `)`
 front_is_past : (field : List ℕ) → text_cmp (front field ++ 41 ∷ []) field ≡ Greater
@@ -72,14 +72,14 @@ unfolding front
 front_is_past [] = refl
 front_is_past (b ∷ field) =
     ⊎_elim
-        (λ yes.
-            ap (λ k. text_cmp (take k (b ∷ field) ++ 41 ∷ []) (b ∷ field)) (cond-false _ _ _ (not_from_true (b == 40) yes))
-            ∙ ap (λ x. text_cmp (41 ∷ []) (x ∷ field)) (eqb-true b 40 yes))
-        (λ no.
-            ap (λ k. text_cmp (take k (b ∷ field) ++ 41 ∷ []) (b ∷ field)) (cond-true _ _ _ (not_from_false (b == 40) no) ∙ one_more _)
-            ∙ ap (λ o. ordering_then o (text_cmp (front field ++ 41 ∷ []) field)) (number_itself b)
-            ∙ front_is_past field)
-        (cases_Bool (b == 40))
+    (λ yes.
+    ap (λ k. text_cmp (take k (b ∷ field) ++ 41 ∷ []) (b ∷ field)) (cond-false _ _ _ (not_from_true (b == 40) yes))
+    ∙ ap (λ x. text_cmp (41 ∷ []) (x ∷ field)) (eqb-true b 40 yes))
+    (λ no.
+    ap (λ k. text_cmp (take k (b ∷ field) ++ 41 ∷ []) (b ∷ field)) (cond-true _ _ _ (not_from_false (b == 40) no) ∙ one_more _)
+    ∙ ap (λ o. ordering_then o (text_cmp (front field ++ 41 ∷ []) field)) (number_itself b)
+    ∙ front_is_past field)
+    (cases_Bool (b == 40))
 
 zero_or_more : (n : ℕ) → (n ≡ 0) ⊎ (0 < n)
 zero_or_more zero = inl refl
@@ -92,12 +92,13 @@ le_same_field p = first_query p.sub p.turn
     first_turn : (turn : Bool) → is_le (bool_cmp false turn) ≡ true
     first_turn true = refl
     first_turn false = refl
+
     first_query : (sub : ℕ) (turn : Bool) → is_le (ordering_then (nat_cmp 0 sub) (bool_cmp false turn)) ≡ true
     first_query sub turn =
         ⊎_elim
-            (λ none. ap (λ n. is_le (ordering_then (nat_cmp 0 n) (bool_cmp false turn))) none ∙ first_turn turn)
-            (λ (some : 0 < sub). ap (λ b. is_le (ordering_then (cond b Less (cond (0 == sub) Equal Greater)) (bool_cmp false turn))) (lt-ltb 0 sub some))
-            (zero_or_more sub)
+        (λ none. ap (λ n. is_le (ordering_then (nat_cmp 0 n) (bool_cmp false turn))) none ∙ first_turn turn)
+        (λ (some : 0 < sub). ap (λ b. is_le (ordering_then (cond b Less (cond (0 == sub) Equal Greater)) (bool_cmp false turn))) (lt-ltb 0 sub some))
+        (zero_or_more sub)
 
 le_then : (o r : Ordering) → is_gt o ≡ false → is_le r ≡ true → is_le (ordering_then o r) ≡ true
 le_then Less r not_after le = refl
@@ -173,8 +174,8 @@ covered_within (DropName entity name) p is =
     let here = equal_texts entity p.entity both.0 in
     let there : name ≡ front p.field = equal_texts name (field_name_of p.field) both.1 ∙ name_is_front p.field in
     within (DropName entity name) p
-        (starts_before p entity name here (ap (λ n. is_gt (text_cmp n p.field)) there ∙ front_is_first p.field))
-        (ends_after p entity (name ++ 41 ∷ []) here (ap (λ n. text_cmp (n ++ 41 ∷ []) p.field) there ∙ front_is_past p.field))
+    (starts_before p entity name here (ap (λ n. is_gt (text_cmp n p.field)) there ∙ front_is_first p.field))
+    (ends_after p entity (name ++ 41 ∷ []) here (ap (λ n. text_cmp (n ++ 41 ∷ []) p.field) there ∙ front_is_past p.field))
 covered_within (DropAll entity) p is =
     let here = equal_texts entity p.entity (one_holds (bytes_eq entity p.entity) (Option Cell) None is) in
     within (DropAll entity) p (starts_before p entity [] here (empty_is_first p.field)) (ends_after_entity p entity here)

@@ -1,5 +1,5 @@
 -- The queries with a covered place are those that wake.
-use Rattle.std.proofs.Common.{◌≡◌, Option, ℕ, Bool, true, false, ◌&&◌, List, [], ◌∷◌, refl, sym, ◌∙◌, ap, subst, Some, None, nat_eq}
+use Rattle.std.proofs.Common.{◌≡◌, Option, ℕ, Bool, true, false, List, refl, sym, ◌∙◌, ap, subst, Some, None, nat_eq}
 use Rattle.std.specs.Option.{option_map}
 use Rattle.std.specs.List.{list_any}
 use Rattle.std.specs.Ordering.{nat_cmp, is_eq}
@@ -13,8 +13,8 @@ use Rattle.cache_model.specs.declared.write.Write.{Write}
 use Rattle.cache_model.specs.Maps.{covers}
 use Rattle.dependents.specs.declared.place.Place.{Place}
 use Rattle.dependents.specs.declared.reading.Reading.{Reading}
-use Rattle.dependents.specs.Waking.{VisitedCells, wakes}
-use Rattle.dependents.specs.Places.{place_cmp, place_of, is_placed, is_current, IsIndexed, dependents_of, wakes_place}
+use Rattle.dependents.specs.Waking.{wakes}
+use Rattle.dependents.specs.Places.{place_cmp, place_of, is_current, IsIndexed, dependents_of, wakes_place}
 use Rattle.dependents.proofs.AnyLaws.{from_any, any_weaker, any_never, any_exchange, same_truth}
 use Rattle.dependents.proofs.PlaceLaws.{same_parts, same_number, number_itself, place_itself}
 use Rattle.dependents.proofs.ReadingLaws.{cells_of, visited_at}
@@ -28,10 +28,10 @@ seen_from_place : (write : Write) (p : Place) (o : Option Reading) → is_curren
 seen_from_place write p None current covered = current
 seen_from_place write p (Some reading) current covered =
     any_weaker (λ cell. is_eq (place_cmp (place_of p.sub reading.turn cell) p)) (λ cell. covers write cell.0 cell.1) reading.cells
-        (λ cell ties.
-            let parts = same_parts (place_of p.sub reading.turn cell) p ties in
-            (λ i. covers write (parts.entity i) (parts.field i)) ∙ covered)
-        current
+    (λ cell ties.
+    let parts = same_parts (place_of p.sub reading.turn cell) p ties in
+    (λ i. covers write (parts.entity i) (parts.field i)) ∙ covered)
+    current
 
 module _ (places : sorted.BTreeSet Place) (readings : tree.BTreeMap ℕ Reading) (indexed : IsIndexed places readings) (write : Write) (sub : ℕ) where
   there : list_any (wakes_place write sub) places.keys ≡ true → seen write (tree.get nat_cmp readings sub) ≡ true
@@ -44,17 +44,17 @@ module _ (places : sorted.BTreeSet Place) (readings : tree.BTreeMap ℕ Reading)
   back_from None is sees = absurd (false≢true sees)
   back_from (Some reading) is sees =
       from_any (λ c d. is_eq (place_cmp (place_of sub reading.turn d) (place_of sub reading.turn c))) (λ c. place_itself (place_of sub reading.turn c)) (λ cell. covers write cell.0 cell.1) reading.cells
-          (λ cell among covered.
-              let p = place_of sub reading.turn cell in
-              let stands = indexed p ∙ ap (λ o. is_current o p) is ∙ among in
-              any_weaker (λ q. is_eq (place_cmp p q)) (wakes_place write sub) places.keys
-                  (λ q ties.
-                      let parts = same_parts p q ties in
-                      and_from (is_eq (nat_cmp q.sub sub)) (covers write q.entity q.field)
-                          (subst (λ s. is_eq (nat_cmp s sub) ≡ true) parts.sub (number_itself sub))
-                          (sym (λ i. covers write (parts.entity i) (parts.field i)) ∙ covered))
-                  stands)
-          sees
+      (λ cell among covered.
+      let p = place_of sub reading.turn cell in
+      let stands = indexed p ∙ ap (λ o. is_current o p) is ∙ among in
+      any_weaker (λ q. is_eq (place_cmp p q)) (wakes_place write sub) places.keys
+      (λ q ties.
+      let parts = same_parts p q ties in
+      and_from (is_eq (nat_cmp q.sub sub)) (covers write q.entity q.field)
+      (subst (λ s. is_eq (nat_cmp s sub) ≡ true) parts.sub (number_itself sub))
+      (sym (λ i. covers write (parts.entity i) (parts.field i)) ∙ covered))
+      stands)
+      sees
 
   wakes_at : list_any (wakes_place write sub) places.keys ≡ seen write (tree.get nat_cmp readings sub)
   wakes_at = same_truth _ _ there (back_from (tree.get nat_cmp readings sub) refl)

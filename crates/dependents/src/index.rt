@@ -61,7 +61,12 @@ impl Index {
         let turn = next_turn(&self.readings, sub);
         let cells = key_texts(self.alloc, visited)?;
         match add_places(&mut self.places, sub, turn, &cells) {
-            Ok(()) => replace(&mut self.places, &mut self.readings, sub, Reading { turn, cells }),
+            Ok(()) => replace(
+                &mut self.places,
+                &mut self.readings,
+                sub,
+                Reading { turn, cells },
+            ),
             Err(memory) => {
                 remove_places(&mut self.places, sub, turn, cells);
                 Err(memory)

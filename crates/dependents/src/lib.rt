@@ -12,8 +12,8 @@ mod place;
 mod placing;
 mod reading;
 mod span;
-mod waking;
 #[cfg(test)]
 mod tests;
+mod waking;
 
 pub use index::{Index, Subs};

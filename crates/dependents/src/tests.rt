@@ -32,10 +32,7 @@ fn drop_of(alloc: Global, cell: (&str, &str)) -> Result<Write, Fail> {
 }
 
 fn drop_name(alloc: Global, cell: (&str, &str)) -> Result<Write, Fail> {
-    Ok(Write::DropName(
-        entity(alloc, cell.0)?,
-        Text::from_str(alloc, cell.1)?,
-    ))
+    Ok(Write::DropName(entity(alloc, cell.0)?, Text::from_str(alloc, cell.1)?))
 }
 
 fn queries(alloc: Global) -> Result<Index, Fail> {

@@ -23,11 +23,7 @@ pub(crate) fn woken_by(places: &BTreeSet<Place>, writes: &Writes) -> Result<BTre
 }
 
 /// Adds the queries that have a place which the write covers.
-fn wake(
-    places: &BTreeSet<Place>,
-    write: &Write,
-    woken: &mut BTreeSet<u64>,
-) -> Result<(), Memory>
+fn wake(places: &BTreeSet<Place>, write: &Write, woken: &mut BTreeSet<u64>) -> Result<(), Memory>
     ensures { OnOk result ((sub : ℕ) → contains nat_cmp woken.new sub ≡ (contains nat_cmp woken.old sub || list_any (wakes_place write.now sub) places.now.keys)) }
 {
     let start = start_of_write(write)?;

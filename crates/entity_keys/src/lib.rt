@@ -17,10 +17,10 @@ mod steps;
 #[cfg(test)]
 mod tests;
 
+pub use cache_model::{Cell, EntityKey, FieldKey, Link, Links, Visited, Write, Writes};
 pub use coverage::{covers, covers_texts};
 pub use entity::{embedded, keyed, root_key};
 pub use field::{field_key, plain_field_key};
-pub use cache_model::{Cell, EntityKey, FieldKey, Link, Links, Visited, Write, Writes};
 pub use laws::{different_keys, equal_embedded_keys, equal_keyed_keys};
 pub use lookup::Lookup;
 pub use objects::{KeyRules, key_of_object};

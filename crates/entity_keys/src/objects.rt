@@ -41,11 +41,7 @@ fn key_by_value(name: &Text, value: &Value) -> Result<Option<EntityKey>, Memory>
     }
 }
 
-fn value_of_key_field<'a>(
-    rules: &KeyRules,
-    name: &Text,
-    fields: &'a Members,
-) -> Option<&'a Value>
+fn value_of_key_field<'a>(rules: &KeyRules, name: &Text, fields: &'a Members) -> Option<&'a Value>
     ensures { option_copied result ≡ spec.value_of_key_field rules.now name.now fields.now }
 {
     match member(rules.as_slice(), name.as_str()) {

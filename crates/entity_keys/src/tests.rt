@@ -1,4 +1,4 @@
-ghost use Rattle.std.specs.Prelude.{◌≡◌, bytes_eq, ◌&&◌, find};
+ghost use Rattle.std.specs.Prelude.{◌≡◌, ◌<◌, bytes_eq, ◌&&◌, find};
 ghost use Rattle.std.specs.Option.{option_copied, option_map};
 
 use crate::{
@@ -84,9 +84,8 @@ impl Listed {
     fn entry(&self, entity: &EntityKey, field: &FieldKey) -> Option<&(EntityKey, FieldKey, Cell)>
         ensures { option_copied result ≡ find (λ c. bytes_eq c.0 entity.now && bytes_eq c.1 field.now) self.now.cells.items }
     {
-        self.cells
-            .iter()
-            .find(|c| c.0.as_text() == entity.as_text() && c.1.as_text() == field.as_text())
+        self.cells.iter().find(|c| c.0.as_text() == entity.as_text()
+            && c.1.as_text() == field.as_text())
     }
 }
 

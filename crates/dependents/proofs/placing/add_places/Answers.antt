@@ -21,6 +21,6 @@ returns-in_err-insert-clause-others c = λ place none.
 pub loop-cell-preserved : goal.loop-cell-preserved
 loop-cell-preserved c = λ place.
     one_more_placed c.args.sub c.args.turn c.as_slice-cell-items.result.now c.loop-cell.cell-index c.cell-item.result _ place _ _ _
-        c.loop-cell-test.true (sym c.cell-item.is)
-        (λ i. record { entity = c.in_ok-copy.ensures i; field = c.in_ok-copy-2.ensures i; sub = c.args.sub; turn = c.args.turn })
-        (c.in_ok-insert.ensures.updates.0 place) (c.loop-cell.invariant place)
+    c.loop-cell-test.true (sym c.cell-item.is)
+    (λ i. record { entity = c.in_ok-copy.ensures i; field = c.in_ok-copy-2.ensures i; sub = c.args.sub; turn = c.args.turn })
+    (c.in_ok-insert.ensures.updates.0 place) (c.loop-cell.invariant place)

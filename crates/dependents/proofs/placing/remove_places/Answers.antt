@@ -1,4 +1,3 @@
-use Rattle.std.proofs.Common.{◌≡◌, ◌∙◌}
 use Rattle.dependents.proofs.PlacingLaws.{one_less_placed}
 use Rattle.dependents.proofs.placing.remove_places.Goals as goal
 

@@ -1,4 +1,4 @@
-use Rattle.std.proofs.Common.{◌≡◌, sym, ap, ◌∙◌, ◌&&◌, ◌||◌, not, nat_cmp}
+use Rattle.std.proofs.Common.{◌≡◌, sym, ap, ◌∙◌, ◌&&◌, not, nat_cmp}
 use Rattle.std.specs.BTreeMap as tree
 use Rattle.std.specs.BTreeMap.{is_at}
 use Rattle.std.specs.BTreeSet as sorted
@@ -14,8 +14,8 @@ returns-in-Ok-Some-clause-indexed c = λ place.
     c.remove_places.ensures place
     ∙ ap (λ b. b && not (is_placed c.args.sub last.turn last.cells place)) (c.requires.placed place)
     ∙ replaced c.args.sub last c.args.reading (tree.get nat_cmp c.args.readings.now place.sub) place
-        (λ same. ap (tree.get nat_cmp c.args.readings.now) (sym same) ∙ sym c.in-Ok-Some.ensures.old ∙ c.in-Ok-Some.field-0-is)
-        (λ same. c.requires.turn ∙ ap (λ s. next_turn (tree.get nat_cmp c.args.readings.now s)) same)
+    (λ same. ap (tree.get nat_cmp c.args.readings.now) (sym same) ∙ sym c.in-Ok-Some.ensures.old ∙ c.in-Ok-Some.field-0-is)
+    (λ same. c.requires.turn ∙ ap (λ s. next_turn (tree.get nat_cmp c.args.readings.now s)) same)
     ∙ ap (λ o. is_current o place) (sym (c.in-Ok-Some.ensures.updates.0 place.sub))
 
 pub returns-in-Ok-Some-clause-ok : goal.returns-in-Ok-Some-clause-ok
@@ -25,7 +25,7 @@ pub returns-in-Ok-None-clause-indexed : goal.returns-in-Ok-None-clause-indexed
 returns-in-Ok-None-clause-indexed c = λ place.
     c.requires.placed place
     ∙ added c.args.sub c.args.reading (tree.get nat_cmp c.args.readings.now place.sub) place
-        (λ same. ap (tree.get nat_cmp c.args.readings.now) (sym same) ∙ sym c.in-Ok-None.ensures.old ∙ c.in-Ok-None.field-0-is)
+    (λ same. ap (tree.get nat_cmp c.args.readings.now) (sym same) ∙ sym c.in-Ok-None.ensures.old ∙ c.in-Ok-None.field-0-is)
     ∙ ap (λ o. is_current o place) (sym (c.in-Ok-None.ensures.updates.0 place.sub))
 
 pub returns-in-Ok-None-clause-ok : goal.returns-in-Ok-None-clause-ok
@@ -39,5 +39,5 @@ returns-in-Err-clause-indexed c = λ place.
     ∙ ap (λ (r : Reading). sorted.contains place_cmp c.args.places.now place && not (is_placed c.args.sub r.turn r.cells place)) back
     ∙ ap (λ b. b && not placed) (c.requires.placed place)
     ∙ undone c.args.sub c.args.reading.turn c.args.reading.cells (tree.get nat_cmp c.args.readings.now place.sub) place
-        (λ same. c.requires.turn ∙ ap (λ s. next_turn (tree.get nat_cmp c.args.readings.now s)) same)
+    (λ same. c.requires.turn ∙ ap (λ s. next_turn (tree.get nat_cmp c.args.readings.now s)) same)
     ∙ ap (λ o. is_current o place) (sym (ap (lookup (is_at (nat_cmp place.sub))) c.in-Err.ensures.err))
