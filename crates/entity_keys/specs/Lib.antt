@@ -1,2 +1,4 @@
 pub mod Escapes
 pub mod Laws
+pub mod Objects
+pub mod Fields

@@ -9,25 +9,32 @@ use text_types::Text;
 pub fn covers(write: &Write, entity: &EntityKey, field: &FieldKey) -> bool
     ensures { result ≡ spec.covers write.now entity.now field.now }
 {
-    write.entity().as_text() == entity.as_text() && covers_field(write, field)
+    covers_texts(write, entity.as_text(), field.as_text())
+}
+
+/// The same by the texts of the two keys.
+pub fn covers_texts(write: &Write, entity: &Text, field: &Text) -> bool
+    ensures { result ≡ spec.covers write.now entity.now field.now }
+{
+    write.entity().as_text() == entity && covers_field(write, field)
 }
 
 /// The same of a field of the write's own object.
-fn covers_field(write: &Write, field: &FieldKey) -> bool
+fn covers_field(write: &Write, field: &Text) -> bool
     ensures { result ≡ is_some (spec.field_hit write.now field.now) }
 {
     match write {
-        Write::Set(_, own, _) => own.as_text() == field.as_text(),
-        Write::Drop(_, own) => own.as_text() == field.as_text(),
+        Write::Set(_, own, _) => own.as_text() == field,
+        Write::Drop(_, own) => own.as_text() == field,
         Write::DropName(_, name) => has_name(field, name),
         Write::DropAll(_) => true,
     }
 }
 
-fn has_name(field: &FieldKey, name: &Text) -> bool
+fn has_name(field: &Text, name: &Text) -> bool
     ensures { result ≡ bytes_eq name.now (field_name_of field.now) }
 {
-    let field = field.as_text().as_bytes();
+    let field = field.as_bytes();
     name.as_bytes() == &field[..name_len(field)]
 }
 

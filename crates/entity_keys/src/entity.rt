@@ -10,9 +10,16 @@ use text_types::{Memory, Text};
 pub fn keyed(name: &Text, id: &Text) -> Result<EntityKey, Memory>
     ensures { IfOk result (λ key. key ≡ keyed_text name.now id.now) }
 {
+    keyed_by(name, id.as_str())
+}
+
+/// The same by a borrowed id.
+pub(crate) fn keyed_by(name: &Text, id: &str) -> Result<EntityKey, Memory>
+    ensures { IfOk result (λ key. key ≡ keyed_text name.now id.now) }
+{
     let mut key = name.copy()?;
     key.push_str(":")?;
-    push_escaped(&mut key, id.as_str())?;
+    push_escaped(&mut key, id)?;
     Ok(EntityKey::from_text(key))
 }
 

@@ -1,0 +1,6 @@
+mod AnyLaws
+mod PlaceLaws
+mod SpanLaws
+mod PlacingLaws
+mod WakingLaws
+mod ReadingLaws
