@@ -1,6 +1,6 @@
 ghost use Rattle.std.specs.Prelude.{◌≡◌, IfOk, IsTrue, ◌↔◌};
 
-use crate::keys::EntityKey;
+use crate::keys::{EntityKey, FieldKey};
 use crate::same::same_link;
 use gql_value::Value;
 use std::alloc::Global;
@@ -23,6 +23,9 @@ pub enum Cell {
     Leaf(Value),
     Link(Link),
 }
+
+/// Cells with their places, in an order that the maker states.
+pub type Cells = Items<(EntityKey, FieldKey, Cell)>;
 
 impl Cell {
     /// An equal cell.

@@ -1,0 +1,5 @@
+pub mod Layers
+pub mod Bases
+pub mod Stores
+pub mod Rows
+pub mod Laws
