@@ -5,6 +5,7 @@ pub mod Names
 pub mod Nesting
 pub mod Numbers
 pub mod Places
+pub mod Readings
 pub mod Runs
 pub mod Strings
 pub mod Tokens

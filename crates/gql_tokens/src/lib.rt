@@ -2,10 +2,12 @@
 //! 2.1 and 2.9). It stands on the texts and lists of `text_types`.
 #![tactic(auto)]
 
+mod blocks;
+mod characters;
 mod error;
-mod nesting;
+mod runs;
+mod strings;
 mod token;
 
 pub use error::SyntaxError;
-pub use nesting::probe;
 pub use token::{Kind, Place, Token, Tokens};

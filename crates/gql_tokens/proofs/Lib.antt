@@ -1,0 +1,3 @@
+pub mod CharacterLaws
+pub mod RunLaws
+pub mod StringLaws
