@@ -1,5 +1,7 @@
 pub mod Blocks
 pub mod Characters
+pub mod Cursors
+pub mod Heads
 pub mod Lexemes
 pub mod Names
 pub mod Nesting

@@ -32,13 +32,3 @@ Fits text character = (0 < character.1) × (character.1 ≤ length text)
 -- rows and columns behind the text still fit in 64 bits
 abbrev pub HasRoom : Place → List ℕ → Type 0
 HasRoom place text = (place.row + length text < 2 ^ 64) × (place.column + length text < 2 ^ 64)
-
--- the rest of a text and its place, behind so many bytes
-abbrev pub IsBehind : Place → List ℕ → Place → List ℕ → Type 0
-IsBehind place text later rest =
-    (n : ℕ) × ((n ≤ length text) × ((rest ≡ drop n text) × (later ≡ place_after n place text)))
-
--- the kind and the length of the first token of a text that begins with nothing ignored
-abbrev pub head_of : List ℕ → Kind × ℕ
-head_of [] = (End, 0)
-head_of (b ∷ rest) = unwrap_or (token_at (b ∷ rest)) (Fault, 0)
