@@ -1,5 +1,5 @@
 -- The numbers that digits spell.
-use Rattle.std.proofs.Common.{◌≡◌, ◌≤◌, ◌<◌, ℕ, zero, suc, ◌+◌, ◌-◌, ◌*◌, ◌^◌, List, [], ◌∷◌, length, drop, get_or, drop-cons, add-one, refl, ap, sym, ◌∙◌, arith}
+use Rattle.std.proofs.Common.{◌≡◌, ◌≤◌, ◌<◌, ℕ, suc, ◌+◌, ◌-◌, ◌*◌, ◌^◌, List, [], ◌∷◌, length, drop, get_or, drop-cons, refl, sym, ◌∙◌, arith}
 use Rattle.gql_tokens.specs.Numbers.{digits_after, digits_value}
 
 -- digits never make a number smaller
