@@ -4,7 +4,7 @@
 //! Contracts see the tokens of a text as the list `tokens_of` of `specs/Tokens.antt`, whose last one
 //! is the first lexical fault or the end. [`Lexer`] is a cursor over that list and takes no memory;
 //! [`lex`] gives the spans of all its tokens, or the fault's place; [`nesting`] says how deep its
-//! brackets nest. [`name_text`], [`string_value`] and [`integer_value`] say what a token's text
+//! brackets nest. [`name_text`], [`integer_text`], [`string_value`] and [`integer_value`] say what a token's text
 //! means. That tokens and ignored stretches make up the text is a law of [`laws`].
 #![tactic(auto)]
 
@@ -33,6 +33,6 @@ pub use error::SyntaxError;
 pub use lexer::Lexer;
 pub use lexing::lex;
 pub use names::name_text;
-pub use numbers::integer_value;
+pub use numbers::{integer_text, integer_value};
 pub use token::{Kind, Place, Token, Tokens};
 pub use values::string_value;
