@@ -80,7 +80,7 @@ source_reads b rest more l q s e u =
     rw (s, q, end, source)
     (ap (λ (n : ℕ). utf8_front n ((b ∷ rest) ++ more)) e ∙ sym (utf8_front_some (length (b ∷ rest)) ((b ∷ rest) ++ more) (b ∷ rest) inside (sym (take-append_seam (b ∷ rest) more)) u))
 
-ascii_text : (b : ℕ) → b < 128 → IsUtf8 (b ∷ [])
+pub ascii_text : (b : ℕ) → b < 128 → IsUtf8 (b ∷ [])
 ascii_text b h = subst IsUtf8 (encode_ascii b h) (IsUtf8-encode b (scalar_ascii b h))
   where
     scalar_ascii : (b : ℕ) → b < 128 → scalar b ≡ true

@@ -3,6 +3,7 @@ use Rattle.std.specs.Prelude.{◌≡◌, ℕ, ◌&&◌, Bool, true, false, if◌
 use Rattle.gql_value.specs.Text.{quoted}
 use Rattle.gql_tokens.specs.declared.token.Kind.{Kind}
 use Rattle.gql_tokens.specs.declared.token.Kind.TheVariants.{Bang, Dollar, Ampersand, ParenOpen, ParenClose, Spread, Colon, Equals, At, BracketOpen, BracketClose, BraceOpen, Pipe, BraceClose, Name, Integer, String, Fault, End}
+use Rattle.gql_tokens.specs.Heads.{is_last}
 use Rattle.gql_tokens.specs.Names.{IsName}
 use Rattle.gql_tokens.specs.Numbers.{IsInteger}
 use Rattle.gql_tokens.specs.Tokens.{Token, tokens_of, string_value_of}
@@ -82,3 +83,18 @@ SpacedLexesAgain = (tokens : List Token) → AreSpelled tokens → StandApart to
 -- a text in quotation marks means the text
 abbrev pub QuotedMeansItsText : Type 0
 QuotedMeansItsText = (value : List ℕ) → IsUtf8 value → string_value_of (quoted value) ≡ value
+
+-- the text of a token as it is printed: a string in one line, all else as it stands
+abbrev pub printed_text : Kind → List ℕ → List ℕ
+printed_text String text = quoted (string_value_of text)
+printed_text _ text = text
+
+-- each token that isn't the last has a text that can be printed
+abbrev pub ArePrintable : List Token → Type 0
+ArePrintable [] = Unit {0}
+ArePrintable (token ∷ tokens) =
+    (is_last token.kind ≡ false → IsTextOf token.kind (printed_text token.kind token.text)) × ArePrintable tokens
+
+-- the tokens of each text can be printed
+abbrev pub TokensArePrintable : Type 0
+TokensArePrintable = (text : List ℕ) → ArePrintable (tokens_of text)

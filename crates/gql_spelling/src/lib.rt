@@ -2,10 +2,10 @@
 //! tokens of `gql_tokens` and the quoted texts of `gql_value`.
 //!
 //! Tokens that are spelled one after another, with one space between two words, lex to these tokens
-//! again, places aside; and a quoted text means the text.
+//! again, places aside; a quoted text means the text; and the tokens of each text can be spelled so.
 #![tactic(auto)]
 
-ghost use Rattle.gql_spelling.specs.Spelling.{SpacedLexesAgain, QuotedMeansItsText};
+ghost use Rattle.gql_spelling.specs.Spelling.{SpacedLexesAgain, QuotedMeansItsText, TokensArePrintable};
 
 /// The printed text of tokens lexes to these tokens again, places aside.
 pub fn spaced_lexes_again()
@@ -15,4 +15,9 @@ pub fn spaced_lexes_again()
 /// A text in quotation marks means the text.
 pub fn quoted_means_its_text()
     ensures { QuotedMeansItsText }
+{}
+
+/// The tokens of each text have texts that can be printed, strings in one line.
+pub fn tokens_are_printable()
+    ensures { TokensArePrintable }
 {}
