@@ -70,3 +70,7 @@ completed queue seq = let rest = without seq queue.rows in record {
 abbrev pub RiseBetween : ℕ → ℕ → List Row → Type 0
 RiseBetween low high [] = low ≤ high
 RiseBetween low high (row ∷ rows) = (low < row.seq) × RiseBetween row.seq high rows
+
+-- the numbers of the rows rise
+abbrev pub AreRising : List Row → Type 0
+AreRising rows = (high : ℕ) × RiseBetween 0 high rows
