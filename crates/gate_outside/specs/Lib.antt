@@ -1,3 +1,4 @@
+pub mod Disk
 pub mod Failing
 pub mod InMemory
 pub mod Shelf

@@ -8,6 +8,7 @@
 //! in the program.
 #![tactic(auto)]
 
+mod disk;
 mod failing;
 mod memory_shelf;
 mod memory_sink;
@@ -16,6 +17,7 @@ mod shelf;
 mod sink;
 mod source;
 
+pub use disk::Disk;
 pub use failing::{Failing, FailingShelf, FailingSink, FailingSource};
 pub use memory_shelf::MemoryShelf;
 pub use memory_sink::MemorySink;
