@@ -93,14 +93,3 @@ pub trait Keeper {
     ghost leaves_held: { (keeper : Self) → intact keeper → tells keeper → (rows : List Row)
         → left_since keeper (moment keeper) rows → rows ≡ (queue keeper).rows };
 }
-
-impl<T: Drop> From<std::alloc::AllocFailed<T>> for PutError {
-    ghost use Rattle.std.specs.Prelude.{◌≡◌};
-    ghost use Rattle.offline_queue.specs.declared.keeper.PutError.TheVariants as put_error;
-
-    ghost from_gives = { λ _ e. e ≡ put_error.Memory };
-
-    fn from(_: std::alloc::AllocFailed<T>) -> PutError {
-        PutError::Memory
-    }
-}

@@ -1,4 +1,4 @@
-ghost use Rattle.std.specs.Prelude.{◌≡◌, ◌≤◌, ◌<◌, ◌+◌, [], length, slice_index, IsTrue, ◌↔◌, IfOk, IfErr, OnOk, IsErrOf};
+ghost use Rattle.std.specs.Prelude.{◌≡◌, ◌≤◌, ◌<◌, ◌+◌, [], length, slice_index, IsTrue, ◌↔◌, IfOk, IfErr, OnOk, OnErr};
 ghost use Rattle.queue_model.specs.Queue.{empty_queue, need_of, queued, completed, numbers_of, without, IsHeld, AreRising, RiseBetween, HasNumber, HasRoom};
 ghost use Rattle.offline_queue.specs.Keeper.{RefusesPut};
 
@@ -120,6 +120,31 @@ impl MemoryKeeper {
         Ok(NextRow { seq, need })
     }
 
+    /// Adds the next row at the end.
+    pub fn add(
+        &mut self,
+        next: NextRow,
+        document: &Text,
+        operation: &Text,
+        variables: &Text,
+    ) -> Result<(), Memory>
+        requires number { next.seq ≡ self.old.greatest + 1 }
+        requires need { next.need ≡ need_of document.now operation.now variables.now }
+        requires room { HasRoom self.old next.need }
+        ensures ok { OnOk result (self.new ≡ queued self.old document.now operation.now variables.now) }
+        ensures err { OnErr result (self.new ≡ self.old) }
+    {
+        self.rows.push(Row {
+            seq: next.seq,
+            document: document.copy()?,
+            operation: operation.copy()?,
+            variables: variables.copy()?,
+        })?;
+        self.end += next.need;
+        self.greatest = next.seq;
+        Ok(())
+    }
+
     /// Takes out the row with this number, and answers its place among the rows.
     pub fn remove(&mut self, seq: u64) -> usize
         requires rising { AreRising self.old.rows }
@@ -172,14 +197,7 @@ impl Keeper for MemoryKeeper {
         variables: &Text,
     ) -> Result<u64, PutError> {
         let next = self.next_row(document, operation, variables)?;
-        self.rows.push(Row {
-            seq: next.seq,
-            document: document.copy()?,
-            operation: operation.copy()?,
-            variables: variables.copy()?,
-        })?;
-        self.end += next.need;
-        self.greatest = next.seq;
+        self.add(next, document, operation, variables)?;
         Ok(next.seq)
     }
 

@@ -1,0 +1,4 @@
+mod Bytes
+mod Chains
+mod Images
+mod Runs
