@@ -80,7 +80,7 @@ module _ (file : List ℕ) (chain : List StoredRow) (is : IsQueueFile file chain
     unfolding tail
     unfold_tail x = refl
 
-    abbrev changed : ℕ → List StoredRow
+    abbrev pub changed : ℕ → List StoredRow
     changed x = split.before ++ with_state split.stored x ∷ split.after
 
     spelled : (x : ℕ) → magic ++ with_chain (changed x) (is.commit ∷ is.remainder) ≡ ahead ++ x ∷ tail

@@ -1,4 +1,8 @@
 mod Bytes
 mod Chains
+mod Dones
 mod Images
+mod Kept
+mod Puts
+mod Resets
 mod Runs

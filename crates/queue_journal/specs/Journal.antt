@@ -39,6 +39,7 @@ pub record IsSettled {D : Type 0} (reads : D → Option (List ℕ)) (kept : D �
   pub limit : journal.queue.limit ≤ 67108864
   pub start : 9 ≤ journal.queue.end
   pub end : journal.queue.end ≤ kept journal.disk
+  pub empty : journal.queue.rows ≡ [] → journal.queue.end ≡ 9
   pub inside : All (λ place. place < journal.queue.end) journal.places
   pub told : WhereTold (reads journal.disk) (λ file.
       ((chain : List StoredRow) × Stands file chain journal.queue journal.places) × Only file (may_leave journal.disk))

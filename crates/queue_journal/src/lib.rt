@@ -9,5 +9,9 @@
 //! so a crash leaves the rows before a call or those after it.
 #![tactic(auto)]
 
+mod journal;
+mod record;
 mod steps;
+
+pub use journal::Journal;
 
