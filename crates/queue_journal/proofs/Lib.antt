@@ -1,6 +1,11 @@
-mod Bytes
+mod Links
+mod OneByte
+mod Openings
+mod Pieces
 mod Chains
 mod Dones
+mod Fields
+mod Heads
 mod Images
 mod Kept
 mod Puts

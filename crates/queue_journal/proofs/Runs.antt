@@ -49,3 +49,23 @@ module _ {D : Type 0} (may_leave : D → List ℕ → Type 0) (moment : D → �
   both_of_two step second old mid new file later run only run' only' =
       joined moment left_since old mid new (After step (may_leave old)) (After second (may_leave mid)) (λ c. step file c ⊎ second later c) run run'
         (λ c after. inl (after_only step (may_leave old) file c only after)) (λ c after. inr (after_only second (may_leave mid) later c only' after))
+
+module _ {D : Type 0} (reads : D → Option (List ℕ)) (kept : D → ℕ) (may_leave : D → List ℕ → Type 0) (moment : D → ℕ) (left_since : D → ℕ → List ℕ → Type 0)
+    (only_now : (disk : D) (c : List ℕ) → left_since disk (moment disk) c → may_leave disk c) where
+  abbrev pub Quiet : D → D → Type 0
+  Quiet old new = IsQuiet reads kept may_leave moment left_since old new
+
+  pub quiet_start : (disk : D) → Quiet disk disk
+  quiet_start disk = record { file = refl; size = refl; crash = λ c h. h; time = started moment left_since disk (may_leave disk) (only_now disk) }
+
+  pub quiet_one : (old new : D) → reads new ≡ reads old → kept new ≡ kept old → ((c : List ℕ) → may_leave new c → may_leave old c)
+      → Elapses (moment old) (moment new) (left_since old) (left_since new) (may_leave new) → Quiet old new
+  quiet_one old new file size crash time = record { file = file; size = size; crash = crash; time = quiet_call may_leave moment left_since only_now old new time crash }
+
+  pub quiet_then : (old mid new : D) → Quiet old mid → Quiet mid new → Quiet old new
+  quiet_then old mid new one two = record {
+    file = two.file ∙ one.file;
+    size = two.size ∙ one.size;
+    crash = λ c h. one.crash c (two.crash c h);
+    time = joined moment left_since old mid new (may_leave old) (may_leave mid) (may_leave old) one.time two.time (λ c h. h) one.crash;
+  }

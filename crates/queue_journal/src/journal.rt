@@ -1,13 +1,16 @@
-ghost use Rattle.std.specs.Prelude.{◌≡◌, ◌⊎◌, ℕ, ◌+◌, ◌≤◌, ◌<◌, [], ◌∷◌, List, Some, length, max, is_some, option_map, take, OnOk, OnErr, ◌++◌};
-ghost use Rattle.fault_causes.specs.Causes.{HasCause, HasCauseOf};
+ghost use Rattle.std.specs.Prelude.{◌≡◌, ◌⊎◌, ℕ, ◌+◌, ◌≤◌, ◌<◌, [], ◌∷◌, List, Some, IfOk, IfErr, length, max, is_some, option_map, take, OnOk, OnErr, ◌++◌};
+ghost use Rattle.fault_causes.specs.Causes.{Rose, HasCause};
 ghost use Rattle.fault_causes.specs.Crash.{Only, LeavesOnly};
 ghost use Rattle.gate_outside.specs.Disk.{IsTorn, written};
 ghost use Rattle.queue_model.specs.Queue.{need_of, queued, HasRoom};
 
+use crate::error::OpenError;
+use crate::opening::open_queue;
 use crate::record::record_bytes;
 use crate::steps::{append_record, close_and_cut, cut_synced, write_synced};
 use gate_outside::{Disk, Failed};
 use offline_queue::{Keeper, MemoryKeeper, NextRow, PutError, Rows};
+use std::alloc::Global;
 use std::marker::Model;
 use text_types::{Memory, Text};
 
@@ -20,6 +23,12 @@ pub struct Journal<D: Disk> {
     pub(crate) places: Vec<u64>,
 }
 
+/// Why a journal wasn't opened, with the disk as the call left it.
+pub struct Unopened<D> {
+    pub disk: D,
+    pub error: OpenError,
+}
+
 impl<D: Disk> Model for Journal<D> {
     ghost use Rattle.queue_journal.specs.Journal.{OpenJournal};
 
@@ -29,7 +38,43 @@ impl<D: Disk> Model for Journal<D> {
 }
 
 impl<D: Disk> Journal<D> {
+    ghost use Rattle.queue_model.specs.QueueFile.{QueueOfFile};
     ghost use Rattle.queue_journal.specs.Journal.{IsSettled, LeftRows};
+    ghost use Rattle.queue_journal.specs.Opening.{WasOrSame, IsForeign};
+    ghost use Rattle.queue_journal.specs.Opened.{disk_after};
+    ghost use Rattle.queue_journal.specs.Steps.{WhereTold};
+
+    /// Opens the queue file on the disk, or begins one where the file has at most 9 bytes.
+    pub fn open(alloc: Global, disk: D, limit: u64) -> Result<Journal<D>, Unopened<D>>
+        requires low { 9 ≤ limit }
+        requires high { limit ≤ 67108864 }
+
+        // The journal holds what the file stands for, and so does each file that a crash now may leave.
+        ensures queue { WhereTold (D.reads disk) (λ file. IfOk result (λ journal. QueueOfFile file limit journal.queue)) }
+        ensures intact { IfOk result (λ journal. IsSettled D.reads D.kept D.may_leave journal) }
+
+        ensures foreign { WhereTold (D.reads disk) (λ file.
+            IfErr result (λ refused. refused.error ≡ OpenError.NotAJournal → IsForeign file)) }
+        ensures failed { IfErr result (λ refused. refused.error ≡ OpenError.Failed
+            → Rose (D.faults disk) (D.faults refused.disk)) }
+        ensures later { D.faults disk ≤ D.faults (disk_after result) }
+
+        // A crash in the call leaves a file that was possible before it, or one of the same rows.
+        ensures crash { WhereTold (D.reads disk) (λ file. LeavesOnly D.moment D.left_since disk (disk_after result)
+            (WasOrSame (D.may_leave disk) file)) }
+        ensures untouched { IfErr result (λ refused. refused.error ≡ OpenError.NotAJournal
+            → LeavesOnly D.moment D.left_since disk refused.disk (D.may_leave disk)) }
+    {
+        let mut disk = disk;
+        match open_queue(alloc, &mut disk, limit) {
+            Ok(found) => Ok(Journal {
+                disk,
+                queue: found.queue,
+                places: found.places,
+            }),
+            Err(error) => Err(Unopened { disk, error }),
+        }
+    }
 
     /// Makes the file as short as one without rows can be. Takes no memory.
     pub fn reset(&mut self) -> Result<(), Failed>

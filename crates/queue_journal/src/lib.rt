@@ -9,9 +9,17 @@
 //! so a crash leaves the rows before a call or those after it.
 #![tactic(auto)]
 
+mod bytes;
+mod chain;
+mod error;
+mod found;
 mod journal;
+mod opening;
 mod record;
+mod records;
 mod steps;
+mod texts;
 
-pub use journal::Journal;
+pub use error::OpenError;
+pub use journal::{Journal, Unopened};
 
