@@ -49,8 +49,8 @@ pub held_append : (a b : List StoredRow) → held_rows (a ++ b) ≡ held_rows a 
 held_append [] b = refl
 held_append (s ∷ a) b =
     elim (s.state == 0) as (λ v. (if v then s.row ∷ held_rows (a ++ b) else held_rows (a ++ b)) ≡ (if v then s.row ∷ held_rows a else held_rows a) ++ held_rows b) [
-    | true ↦ ap (λ l. s.row ∷ l) (held_append a b)
-    | false ↦ held_append a b
+      | true ↦ ap (λ l. s.row ∷ l) (held_append a b)
+      | false ↦ held_append a b
     ]
 
 pub places_append : (at : ℕ) (a b : List StoredRow) → state_places at (a ++ b) ≡ state_places at a ++ state_places (at + length (with_chain a [])) b
@@ -59,11 +59,11 @@ places_append at (s ∷ a) b =
     let next = at + 1 + length (with_record s []) in
     let same : next + length (with_chain a []) ≡ at + length (with_chain (s ∷ a) []) = let e = length-chain s a [] in omega arith in
     let rest : state_places next (a ++ b) ≡ state_places next a ++ state_places (at + length (with_chain (s ∷ a) [])) b =
-      places_append next a b ∙ ap (λ (n : ℕ). state_places next a ++ state_places n b) same in
+    places_append next a b ∙ ap (λ (n : ℕ). state_places next a ++ state_places n b) same in
     elim (s.state == 0) as (λ v. (if v then (at + 1) ∷ state_places next (a ++ b) else state_places next (a ++ b))
-        ≡ (if v then (at + 1) ∷ state_places next a else state_places next a) ++ state_places (at + length (with_chain (s ∷ a) [])) b) [
-    | true ↦ ap (λ l. (at + 1) ∷ l) rest
-    | false ↦ rest
+    ≡ (if v then (at + 1) ∷ state_places next a else state_places next a) ++ state_places (at + length (with_chain (s ∷ a) [])) b) [
+      | true ↦ ap (λ l. (at + 1) ∷ l) rest
+      | false ↦ rest
     ]
 
 pub held_one : (s : StoredRow) → s.state ≡ 0 → held_rows (s ∷ []) ≡ s.row ∷ []
@@ -122,7 +122,13 @@ pub record Split (at : ℕ) (chain : List StoredRow) (i : ℕ) : Type 0 where
 
 split_first : (at : ℕ) (s : StoredRow) (chain : List StoredRow) → s.state ≡ 0 → Split at (s ∷ chain) 0
 split_first at s chain held = record {
-  before = []; stored = s; after = chain; whole = refl; is_held = held; count = refl; places = refl;
+  before = [];
+  stored = s;
+  after = chain;
+  whole = refl;
+  is_held = held;
+  count = refl;
+  places = refl;
   place = ap (λ (l : List ℕ). get_or l 0 0) (places_first at s chain held) ∙ omega arith;
 }
 
@@ -187,6 +193,6 @@ module _ (at : ℕ) (chain : List StoredRow) (i : ℕ) (parts : Split at chain i
       let next = at + length (with_chain parts.before []) in
       let later = state_places (next + 1 + length (with_record parts.stored [])) parts.after in
       let whole : state_places at chain ≡ state_places at parts.before ++ (next + 1) ∷ later =
-        ap (state_places at) parts.whole ∙ places_append at parts.before (parts.stored ∷ parts.after) ∙ ap (λ l. state_places at parts.before ++ l) (places_first next parts.stored parts.after parts.is_held) in
+      ap (state_places at) parts.whole ∙ places_append at parts.before (parts.stored ∷ parts.after) ∙ ap (λ l. state_places at parts.before ++ l) (places_first next parts.stored parts.after parts.is_held) in
       places_append at parts.before (with_state parts.stored x ∷ parts.after) ∙ ap (λ l. state_places at parts.before ++ l) (places_done next (with_state parts.stored x) parts.after other)
       ∙ sym (without_parts (state_places at parts.before) later (next + 1) (state_places at chain) whole parts.places)

@@ -62,9 +62,9 @@ module _ {D : Type 0} (reads : D → Option (List ℕ)) (kept : D → ℕ) (may_
     rows_torn : (file : List ℕ) (f : Found file) (c : List ℕ) (rows : List Row) → IsTorn place 1 file c → RowsOfFile c rows → Rows rows
     rows_torn file f c rows torn has =
         ⊎_elim
-          (λ same. inl (one_list c rows (held_rows f.chain) has same ∙ sym f.stands.rows))
-          (λ less. inr (one_list c rows (remove (held_rows f.chain) i) has less ∙ ap (λ l. remove l i) (sym f.stands.rows) ∙ sym gone))
-          (torn_state file f.chain f.stands.bytes i f.split c (subst (λ (k : ℕ). IsTorn k 1 file c) f.here torn))
+        (λ same. inl (one_list c rows (held_rows f.chain) has same ∙ sym f.stands.rows))
+        (λ less. inr (one_list c rows (remove (held_rows f.chain) i) has less ∙ ap (λ l. remove l i) (sym f.stands.rows) ∙ sym gone))
+        (torn_state file f.chain f.stands.bytes i f.split c (subst (λ (k : ℕ). IsTorn k 1 file c) f.here torn))
 
     -- the rows that a crash may leave while the state byte is written
     pub done_crash : (new : OpenJournal D) → ((file : List ℕ) × (reads old.disk ≡ Some file)) → LeavesOnly moment left_since old.disk new.disk (After (IsTorn place 1) (may_leave old.disk))
@@ -72,7 +72,7 @@ module _ {D : Type 0} (reads : D → Option (List ℕ)) (kept : D → ℕ) (may_
     done_crash new tells run =
         let f = found tells.0 tells.1 in
         lifted reads kept may_leave moment left_since only_now old new _ _ run (λ c rows after has.
-          rows_torn tells.0 f c rows (after_only may_leave moment left_since only_now (IsTorn place 1) (may_leave old.disk) tells.0 c f.only after) has)
+        rows_torn tells.0 f c rows (after_only may_leave moment left_since only_now (IsTorn place 1) (may_leave old.disk) tells.0 c f.only after) has)
 
     -- the file once the row is done
     pub done_bytes : (file : List ℕ) (f : Found file) → IsQueueFile (written place (1 ∷ []) file) (changed file f.chain f.stands.bytes i f.split 1)
@@ -100,24 +100,29 @@ module _ {D : Type 0} (reads : D → Option (List ℕ)) (kept : D → ℕ) (may_
         record {
           rising = subst (λ (q : MutationQueue). RiseBetween 0 q.greatest q.rows) (sym queue) (rise_without seq 0 old.queue.greatest old.queue.rows settled.rising);
           counts = (let e = ap length places in let e' = length-remove old.places i (omega (arith, within, settled.counts)) in let e'' = ap length (rows ∙ gone) in let e''' = length-remove old.queue.rows i within in
-            omega (arith, settled.counts, e, e', e'', e'''));
+              omega (arith, settled.counts, e, e', e'', e'''));
           limit = (let e = ap (λ (q : MutationQueue). q.limit) queue in omega (arith, e, settled.limit));
           start = omega (arith, end, settled.start);
           end = omega (arith, end, size, settled.end);
           empty = λ none. absurd (some (sym rows ∙ none));
           inside = subst (All (λ (k : ℕ). k < new.queue.end)) (sym places) (subst (λ (e : ℕ). All (λ (k : ℕ). k < e) (remove old.places i)) (sym end)
-            (All-append (λ (k : ℕ). k < old.queue.end) (take i old.places) (drop (suc i) old.places) (All-take (λ (k : ℕ). k < old.queue.end) i old.places settled.inside) (All-drop (λ (k : ℕ). k < old.queue.end) (suc i) old.places settled.inside)));
+              (All-append (λ (k : ℕ). k < old.queue.end) (take i old.places) (drop (suc i) old.places) (All-take (λ (k : ℕ). k < old.queue.end) i old.places settled.inside) (All-drop (λ (k : ℕ). k < old.queue.end) (suc i) old.places settled.inside)));
           told = λ file' told'.
-            let was = map_some _ (reads old.disk) file' (sym file ∙ told') in
-            let f = found was.0 was.1 in
-            let chain = changed was.0 f.chain f.stands.bytes i f.split 1 in
-            ((chain, record {
-              bytes = subst (λ l. IsQueueFile l chain) (sym was.2) (done_bytes was.0 f);
-              rows = rows ∙ sym (done_rows was.0 f);
-              end = end ∙ sym (done_end was.0 f);
-              greatest = (let e = last_state 0 f.split.before f.split.stored f.split.after 1 in let e' = ap (last_number 0) f.split.whole in let e'' = ap (λ (q : MutationQueue). q.greatest) queue in omega (arith, e, e', e'', f.stands.greatest));
-              at = places ∙ ap (λ l. remove l i) f.stands.at ∙ sym (places_without 8 f.chain i f.split 1 (one_other 1 refl));
-            }), durable file' told');
+              let was = map_some _ (reads old.disk) file' (sym file ∙ told') in
+              let f = found was.0 was.1 in
+              let chain = changed was.0 f.chain f.stands.bytes i f.split 1 in (
+                (
+                  chain,
+                  record {
+                    bytes = subst (λ l. IsQueueFile l chain) (sym was.2) (done_bytes was.0 f);
+                    rows = rows ∙ sym (done_rows was.0 f);
+                    end = end ∙ sym (done_end was.0 f);
+                    greatest = (let e = last_state 0 f.split.before f.split.stored f.split.after 1 in let e' = ap (last_number 0) f.split.whole in let e'' = ap (λ (q : MutationQueue). q.greatest) queue in omega (arith, e, e', e'', f.stands.greatest));
+                    at = places ∙ ap (λ l. remove l i) f.stands.at ∙ sym (places_without 8 f.chain i f.split 1 (one_other 1 refl));
+                  },
+                ),
+                durable file' told',
+              );
         }
 
     -- where none is left the chain is closed and cut off
@@ -134,12 +139,12 @@ module _ {D : Type 0} (reads : D → Option (List ℕ)) (kept : D → ℕ) (may_
         let told : reads mid.disk ≡ Some later = file ∙ ap (option_map (written place (1 ∷ []))) tells.1 in
         let closing = closes later chain (done_bytes tells.0 f) (done_rows tells.0 f ∙ none) (end_nonempty f.split.before (with_state f.split.stored 1) f.split.after) in
         lifted reads kept may_leave moment left_since only_now old new
-          (λ c. After (IsTorn place 1) (may_leave old.disk) c ⊎ (IsTorn 8 1 later c ⊎ IsCutOrWhole 9 (written 8 (0 ∷ []) later) c)) _
-          (joined moment left_since old.disk mid.disk new.disk _ _ _ run (close later told (durable later told)) (λ c h. inl h) (λ c h. inr h))
-          (λ c rows h has. ⊎_elim
-            (λ after. rows_torn tells.0 f c rows (after_only may_leave moment left_since only_now (IsTorn place 1) (may_leave old.disk) tells.0 c f.only after) has)
-            (λ closing_up. inr (one_list c rows [] has (closing.0 c closing_up) ∙ sym none))
-            h)
+        (λ c. After (IsTorn place 1) (may_leave old.disk) c ⊎ (IsTorn 8 1 later c ⊎ IsCutOrWhole 9 (written 8 (0 ∷ []) later) c)) _
+        (joined moment left_since old.disk mid.disk new.disk _ _ _ run (close later told (durable later told)) (λ c h. inl h) (λ c h. inr h))
+        (λ c rows h has. ⊎_elim
+        (λ after. rows_torn tells.0 f c rows (after_only may_leave moment left_since only_now (IsTorn place 1) (may_leave old.disk) tells.0 c f.only after) has)
+        (λ closing_up. inr (one_list c rows [] has (closing.0 c closing_up) ∙ sym none))
+        h)
 
     pub settled_last : (mid new : OpenJournal D) → without seq old.queue.rows ≡ [] → new.queue ≡ completed old.queue seq → new.places ≡ remove old.places i
         → reads mid.disk ≡ option_map (written place (1 ∷ [])) (reads old.disk)
@@ -149,15 +154,15 @@ module _ {D : Type 0} (reads : D → Option (List ℕ)) (kept : D → ℕ) (may_
         let rows : new.queue.rows ≡ [] = ap (λ (q : MutationQueue). q.rows) queue ∙ none in
         let end : new.queue.end ≡ 9 = ap (λ (q : MutationQueue). q.end) queue ∙ ap (λ l. end_with l old.queue.end) none in
         let nowhere : length new.places ≡ 0 =
-          (let e = ap length places in let e' = length-remove old.places i (omega (arith, within, settled.counts)) in let e'' = ap length (sym none ∙ gone) in let e''' = length-remove old.queue.rows i within in
-            omega (arith, settled.counts, e, e', e'', e''')) in
+        (let e = ap length places in let e' = length-remove old.places i (omega (arith, within, settled.counts)) in let e'' = ap length (sym none ∙ gone) in let e''' = length-remove old.queue.rows i within in
+        omega (arith, settled.counts, e, e', e'', e''')) in
         settled_empty reads kept may_leave moment left_since only_now new rows end
-          (let e = ap (λ (q : MutationQueue). q.limit) queue in omega (arith, e, settled.limit))
-          nowhere (omega (arith, size))
-          (λ file' told'.
-            let before = map_some (λ file. take 9 (written 8 (0 ∷ []) file)) (reads mid.disk) file' (sym cut ∙ told') in
-            let was = map_some (written place (1 ∷ [])) (reads old.disk) before.0 (sym file ∙ before.1) in
-            let f = found was.0 was.1 in
-            let chain = changed was.0 f.chain f.stands.bytes i f.split 1 in
-            let closing = closes (written place (1 ∷ []) was.0) chain (done_bytes was.0 f) (done_rows was.0 f ∙ none) (end_nonempty f.split.before (with_state f.split.stored 1) f.split.after) in
-            (([], 0, (λ same. omega (arith, same)), before.2 ∙ ap (λ l. take 9 (written 8 (0 ∷ []) l)) was.2 ∙ closing.1), durable file' told'))
+        (let e = ap (λ (q : MutationQueue). q.limit) queue in omega (arith, e, settled.limit))
+        nowhere (omega (arith, size))
+        (λ file' told'.
+        let before = map_some (λ file. take 9 (written 8 (0 ∷ []) file)) (reads mid.disk) file' (sym cut ∙ told') in
+        let was = map_some (written place (1 ∷ [])) (reads old.disk) before.0 (sym file ∙ before.1) in
+        let f = found was.0 was.1 in
+        let chain = changed was.0 f.chain f.stands.bytes i f.split 1 in
+        let closing = closes (written place (1 ∷ []) was.0) chain (done_bytes was.0 f) (done_rows was.0 f ∙ none) (end_nonempty f.split.before (with_state f.split.stored 1) f.split.after) in
+        (([], 0, (λ same. omega (arith, same)), before.2 ∙ ap (λ l. take 9 (written 8 (0 ∷ []) l)) was.2 ∙ closing.1), durable file' told'))

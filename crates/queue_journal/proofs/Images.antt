@@ -59,14 +59,14 @@ module _ (file : List ℕ) (chain : List StoredRow) (is : IsQueueFile file chain
         let at = subst (λ (k : ℕ). IsTorn k 1 (written (end_of chain) bytes file) c) before torn in
         let image = torn_one (front chain) is.commit (bytes ++ staged.0) c (subst (λ f. IsTorn (length (front chain)) 1 f c) staged.1 at) in
         elim (cases_eq image.0 1) [
-        | inl opened ↦ inr (subst (λ f. IsQueueFile f (chain ++ s ∷ [])) (sym (image.1 ∙ ap (λ (x : ℕ). front chain ++ x ∷ (bytes ++ staged.0)) opened)) (committed staged.0))
-        | inr shut ↦ inl (subst (λ f. IsQueueFile f chain) (sym image.1) (closed_file chain image.0 (bytes ++ staged.0) is.order shut))
+          | inl opened ↦ inr (subst (λ f. IsQueueFile f (chain ++ s ∷ [])) (sym (image.1 ∙ ap (λ (x : ℕ). front chain ++ x ∷ (bytes ++ staged.0)) opened)) (committed staged.0))
+          | inr shut ↦ inl (subst (λ f. IsQueueFile f chain) (sym image.1) (closed_file chain image.0 (bytes ++ staged.0) is.order shut))
         ]
 
     pub put_file : IsQueueFile (written (end_of chain - 1) (1 ∷ []) (written (end_of chain) bytes file)) (chain ++ s ∷ [])
     put_file =
         let same = ap (λ (k : ℕ). written k (1 ∷ []) (written (end_of chain) bytes file)) before ∙ ap (written (length (front chain)) (1 ∷ [])) staged.1
-          ∙ written_one (front chain) is.commit (bytes ++ staged.0) 1 in
+        ∙ written_one (front chain) is.commit (bytes ++ staged.0) 1 in
         subst (λ f. IsQueueFile f (chain ++ s ∷ [])) (sym same) (committed staged.0)
 
   module _ (i : ℕ) (split : Split 8 chain i) where
@@ -114,8 +114,8 @@ module _ (file : List ℕ) (chain : List StoredRow) (is : IsQueueFile file chain
         let image = torn_one ahead 0 tail c (subst (λ f. IsTorn (length ahead) 1 f c) file_here at) in
         let is' = subst (λ f. IsQueueFile f (changed image.0)) (sym image.1) (state_file image.0) in
         elim (cases_eq image.0 0) [
-        | inl same ↦ inl (inr (changed image.0, is', sym (held_same 8 chain i split) ∙ ap (λ (x : ℕ). held_rows (split.before ++ with_state split.stored x ∷ split.after)) (sym same)))
-        | inr other ↦ inr (inr (changed image.0, is', sym (held_without 8 chain i split image.0 other)))
+          | inl same ↦ inl (inr (changed image.0, is', sym (held_same 8 chain i split) ∙ ap (λ (x : ℕ). held_rows (split.before ++ with_state split.stored x ∷ split.after)) (sym same)))
+          | inr other ↦ inr (inr (changed image.0, is', sym (held_without 8 chain i split image.0 other)))
         ]
 
     pub done_file : IsQueueFile (written (end_of split.before) (1 ∷ []) file) (changed 1)
@@ -139,10 +139,10 @@ module _ (file : List ℕ) (s : StoredRow) (more : List StoredRow) (is : IsQueue
   torn_close c torn =
       let image = torn_one magic 1 records c (subst (λ f. IsTorn 8 1 f c) is.bytes torn) in
       elim (cases_eq image.0 1) [
-      | inl same ↦
-          let whole : c ≡ file = image.1 ∙ ap (λ (x : ℕ). magic ++ x ∷ records) same ∙ sym is.bytes in
-          inr (s ∷ more, subst (λ f. IsQueueFile f (s ∷ more)) (sym whole) is, sym none)
-      | inr shut ↦ no_rows c (subst (λ f. IsQueueFile f []) (sym image.1) (empty_chain image.0 records shut))
+        | inl same ↦
+            let whole : c ≡ file = image.1 ∙ ap (λ (x : ℕ). magic ++ x ∷ records) same ∙ sym is.bytes in
+            inr (s ∷ more, subst (λ f. IsQueueFile f (s ∷ more)) (sym whole) is, sym none)
+        | inr shut ↦ no_rows c (subst (λ f. IsQueueFile f []) (sym image.1) (empty_chain image.0 records shut))
       ]
 
   closed_bytes : written 8 (0 ∷ []) file ≡ magic ++ 0 ∷ records

@@ -78,7 +78,7 @@ module _ (file : List ℕ) (records : List StoredRow) (old : ChainSoFar) (read :
         let place : old.commit ≡ 8 + length (with_chain records []) = omega (arith, read.behind) in
         record {
           bytes = read.bytes ∙ ap (λ l. magic ++ with_chain records l) (opened ∙ ap (λ l. 1 ∷ l) here) ∙ ap (λ l. magic ++ l) (sym (with_chain_more records (s ∷ []) (drop found.end file)))
-            ∙ ap (λ (n : ℕ). magic ++ with_chain (records ++ s ∷ []) (drop n file)) (sym adds.commit);
+              ∙ ap (λ (n : ℕ). magic ++ with_chain (records ++ s ∷ []) (drop n file)) (sym adds.commit);
           order = order_push 0 records s read.order (subst (λ (n : ℕ). CanStand n s) read.last can);
           held = adds.rows ∙ ap (λ l. l ++ held_rows (s ∷ [])) read.held ∙ sym (held_append records (s ∷ []));
           at = adds.places ∙ ap (λ l. l ++ state_places old.commit (s ∷ [])) read.at ∙ ap (λ (n : ℕ). state_places 8 records ++ state_places n (s ∷ [])) place ∙ sym (places_append 8 records (s ∷ []));
@@ -105,8 +105,8 @@ pub commit_read : (file : List ℕ) (at byte : ℕ) → byte ∷ [] ≡ take 1 (
 commit_read file at byte is =
     let here : drop at file ≡ byte ∷ drop (at + 1) file = sym (take-append-drop 1 (drop at file)) ∙ ap (λ l. l ++ drop 1 (drop at file)) (sym is) ∙ ap (λ l. byte ∷ l) (drop-drop 1 at file) in
     elim (cases_eq byte 1) [
-    | inl same ↦ let yes : (byte == 1) ≡ true = grind (arith, nat_tests) in rw yes (here ∙ ap (λ (x : ℕ). x ∷ drop (at + 1) file) same)
-    | inr other ↦ let no : (byte == 1) ≡ false = grind (arith, nat_tests) in rw no (byte, other, here)
+      | inl same ↦ let yes : (byte == 1) ≡ true = grind (arith, nat_tests) in rw yes (here ∙ ap (λ (x : ℕ). x ∷ drop (at + 1) file) same)
+      | inr other ↦ let no : (byte == 1) ≡ false = grind (arith, nat_tests) in rw no (byte, other, here)
     ]
 
 -- what a record adds keeps the rows in order and their places within
@@ -117,7 +117,7 @@ sound_more old new row place sound above behind before rows places greatest = re
   counts = (let e = ap length rows in let e' = ap length places in let e'' = length-append old.rows.items (row ∷ []) in let e''' = length-append old.places.items (place ∷ []) in omega (arith, e, e', e'', e''', sound.counts));
   start = omega (arith, sound.start, behind, before);
   inside = subst (All (λ (k : ℕ). k < new.commit)) (sym places) (All-push (λ (k : ℕ). k < new.commit) old.places.items place
-    (All-weaker (λ (k : ℕ). k < old.commit) (λ (k : ℕ). k < new.commit) (λ k below. omega (arith, below, behind, before)) old.places.items sound.inside) before);
+      (All-weaker (λ (k : ℕ). k < old.commit) (λ (k : ℕ). k < new.commit) (λ k below. omega (arith, below, behind, before)) old.places.items sound.inside) before);
 }
 
 pub sound_same : (old new : ChainSoFar) → IsSound old → old.greatest ≤ new.greatest → old.commit ≤ new.commit → new.rows.items ≡ old.rows.items → new.places.items ≡ old.places.items → IsSound new

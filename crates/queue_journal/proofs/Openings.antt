@@ -32,15 +32,15 @@ module _ {D : Type 0} (reads : D → Option (List ℕ)) (kept : D → ℕ) (may_
       → LeavesOnly moment left_since old new (WasOrSame (may_leave old) file)
   begin_crash old new file short only run =
       weakened moment left_since old new (After (IsTorn 0 9) (may_leave old)) (WasOrSame (may_leave old) file) run
-        (λ c after. inr ([], inl (short, refl), torn_begin file short c (after_only may_leave moment left_since only_now (IsTorn 0 9) (may_leave old) file c only after)))
+      (λ c after. inr ([], inl (short, refl), torn_begin file short c (after_only may_leave moment left_since only_now (IsTorn 0 9) (may_leave old) file c only after)))
 
   pub settled_begin : (old : D) (new : OpenJournal D) → WhereTold (reads old) (λ file. (length file ≤ 9) × Only file (may_leave old))
       → reads new.disk ≡ option_map (written 0 (magic ++ 0 ∷ [])) (reads old) → 9 ≤ kept new.disk → WhereTold (reads new.disk) (λ file. Only file (may_leave new.disk))
       → new.queue.rows ≡ [] → new.queue.end ≡ 9 → new.queue.limit ≤ 67108864 → length new.places ≡ 0 → IsSettled reads kept may_leave new
   settled_begin old new short begun size durable rows end limit nowhere =
       settled_empty reads kept may_leave moment left_since only_now new rows end limit nowhere size (λ file' told'.
-        let was = map_some (written 0 (magic ++ 0 ∷ [])) (reads old) file' (sym begun ∙ told') in
-        (([], 0, (λ same. omega (arith, same)), was.2 ∙ begun_file was.0 (short was.0 was.1).0), durable file' told'))
+      let was = map_some (written 0 (magic ++ 0 ∷ [])) (reads old) file' (sym begun ∙ told') in
+      (([], 0, (λ same. omega (arith, same)), was.2 ∙ begun_file was.0 (short was.0 was.1).0), durable file' told'))
 
   module _ (old mid : D) (size : ℕ) (chain : ChainSoFar) (sound : IsSound chain) (within : chain.commit < size) (is_kept : size ≡ kept old)
       (file_is : WhereTold (reads old) (λ file. (size ≡ length file) × Only file (may_leave old)))
@@ -58,15 +58,20 @@ module _ {D : Type 0} (reads : D → Option (List ℕ)) (kept : D → ℕ) (may_
       empty = λ none. omega (arith, end, sound.start, some (sym rows ∙ none));
       inside = subst (All (λ (k : ℕ). k < new.queue.end)) (sym places) (All-weaker (λ (k : ℕ). k < chain.commit) (λ (k : ℕ). k < new.queue.end) (λ k below. omega (arith, below, end)) chain.places.items sound.inside);
       told = λ file told.
-        let told' : reads old ≡ Some file = sym (ap reads disk ∙ quiet.file) ∙ told in
-        let found = read file told' in
-        ((found.0, record {
-          bytes = found.2;
-          rows = rows ∙ found.1.held;
-          end = end ∙ found.1.behind;
-          greatest = omega (arith, greatest, found.1.last);
-          at = places ∙ found.1.at;
-        }), λ c left. (file_is file told').1 c (quiet.crash c (subst (λ (d : D). may_leave d c) disk left)));
+          let told' : reads old ≡ Some file = sym (ap reads disk ∙ quiet.file) ∙ told in
+          let found = read file told' in (
+            (
+              found.0,
+              record {
+                bytes = found.2;
+                rows = rows ∙ found.1.held;
+                end = end ∙ found.1.behind;
+                greatest = omega (arith, greatest, found.1.last);
+                at = places ∙ found.1.at;
+              },
+            ),
+            λ c left. (file_is file told').1 c (quiet.crash c (subst (λ (d : D). may_leave d c) disk left)),
+          );
     }
 
     module _ (none : chain.rows.items ≡ []) (long : 9 ≤ chain.commit) where
@@ -80,14 +85,14 @@ module _ {D : Type 0} (reads : D → Option (List ℕ)) (kept : D → ℕ) (may_
           let empty : held_rows found.0 ≡ [] = sym found.1.held ∙ none in
           let closing = closes file found.0 found.2 empty (omega (arith, found.1.behind, long)) in
           joined moment left_since old mid new (may_leave old) (λ c. IsTorn 8 1 file c ⊎ IsCutOrWhole 9 (written 8 (0 ∷ []) file) c) (WasOrSame (may_leave old) file)
-            quiet.time (close file (quiet.file ∙ told) (λ c left. (file_is file told).1 c (quiet.crash c left)))
-            (λ c h. inl h) (λ c h. inr ([], inr (found.0, found.2, sym empty), closing.0 c h))
+          quiet.time (close file (quiet.file ∙ told) (λ c left. (file_is file told).1 c (quiet.crash c left)))
+          (λ c h. inl h) (λ c h. inr ([], inr (found.0, found.2, sym empty), closing.0 c h))
 
       pub settled_close : (new : OpenJournal D) → reads new.disk ≡ option_map (λ file. take 9 (written 8 (0 ∷ []) file)) (reads mid) → kept new.disk ≡ 9 → WhereTold (reads new.disk) (λ file. Only file (may_leave new.disk))
           → new.queue.rows ≡ chain.rows.items → new.queue.end ≡ 9 → new.queue.limit ≤ 67108864 → new.places ≡ chain.places.items → IsSettled reads kept may_leave new
       settled_close new cut size' durable rows end limit places =
           settled_empty reads kept may_leave moment left_since only_now new (rows ∙ none) end limit (ap length places ∙ sound.counts ∙ ap length none) (omega (arith, size')) (λ file' told'.
-            let was = map_some (λ file. take 9 (written 8 (0 ∷ []) file)) (reads mid) file' (sym cut ∙ told') in
-            let found = read was.0 (sym quiet.file ∙ was.1) in
-            let closing = closes was.0 found.0 found.2 (sym found.1.held ∙ none) (omega (arith, found.1.behind, long)) in
-            (([], 0, (λ same. omega (arith, same)), was.2 ∙ closing.1), durable file' told'))
+          let was = map_some (λ file. take 9 (written 8 (0 ∷ []) file)) (reads mid) file' (sym cut ∙ told') in
+          let found = read was.0 (sym quiet.file ∙ was.1) in
+          let closing = closes was.0 found.0 found.2 (sym found.1.held ∙ none) (omega (arith, found.1.behind, long)) in
+          (([], 0, (λ same. omega (arith, same)), was.2 ∙ closing.1), durable file' told'))

@@ -47,7 +47,7 @@ module _ {D : Type 0} (reads : D → Option (List ℕ)) (kept : D → ℕ) (may_
     -- the rows that a crash may leave while the record is written, and while its commit byte is
     pub put_crash : ((file : List ℕ) × (reads old.disk ≡ Some file))
         → WhereTold (reads old.disk) (λ file. Only file (may_leave old.disk) → LeavesOnly moment left_since old.disk new.disk
-          (λ c. IsTorn old.queue.end (length bytes) file c ⊎ IsTorn (old.queue.end - 1) 1 (written old.queue.end bytes file) c))
+        (λ c. IsTorn old.queue.end (length bytes) file c ⊎ IsTorn (old.queue.end - 1) 1 (written old.queue.end bytes file) c))
         → Leaves reads kept may_leave moment left_since only_now old new (IsRowsBeforeOrAfter old.queue.rows (queued old.queue document operation variables).rows)
     put_crash tells run =
         let file = tells.0 in
@@ -56,16 +56,16 @@ module _ {D : Type 0} (reads : D → Option (List ℕ)) (kept : D → ℕ) (may_
         let stands = told.0.1 in
         let next = follows old.queue document operation variables settled.limit can (last_number 0 chain) stands.greatest in
         let before : (c : List ℕ) (rows : List Row) → IsQueueFile c chain → RowsOfFile c rows → rows ≡ old.queue.rows =
-          λ c rows is has. one_list c rows (held_rows chain) has (rows_of c chain is) ∙ sym stands.rows in
+        λ c rows is has. one_list c rows (held_rows chain) has (rows_of c chain is) ∙ sym stands.rows in
         let after : (c : List ℕ) (rows : List Row) → IsQueueFile c (chain ++ s ∷ []) → RowsOfFile c rows → rows ≡ old.queue.rows ++ s.row ∷ [] =
-          λ c rows is has. one_list c rows (held_rows (chain ++ s ∷ [])) has (rows_of c (chain ++ s ∷ []) is) ∙ held_append chain (s ∷ []) ∙ ap (λ l. l ++ s.row ∷ []) (sym stands.rows) in
+        λ c rows is has. one_list c rows (held_rows (chain ++ s ∷ [])) has (rows_of c (chain ++ s ∷ []) is) ∙ held_append chain (s ∷ []) ∙ ap (λ l. l ++ s.row ∷ []) (sym stands.rows) in
         lifted reads kept may_leave moment left_since only_now old new _ _ (run file tells.1 told.1) (λ c rows torn has. ⊎_elim
-          (λ behind. inl (before c rows (torn_record file chain stands.bytes (length bytes) c (subst (λ (k : ℕ). IsTorn k (length bytes) file c) stands.end behind)) has))
-          (λ commit.
-            let at_end = subst (λ (k : ℕ). IsTorn (k - 1) 1 (written k bytes file) c) stands.end commit in
-            let spelled_out = subst (λ (l : List ℕ). IsTorn (end_of chain - 1) 1 (written (end_of chain) l file) c) spelled at_end in
-            ⊎_elim (λ is. inl (before c rows is has)) (λ is. inr (after c rows is has)) (torn_commit file chain stands.bytes s next c spelled_out))
-          torn)
+        (λ behind. inl (before c rows (torn_record file chain stands.bytes (length bytes) c (subst (λ (k : ℕ). IsTorn k (length bytes) file c) stands.end behind)) has))
+        (λ commit.
+        let at_end = subst (λ (k : ℕ). IsTorn (k - 1) 1 (written k bytes file) c) stands.end commit in
+        let spelled_out = subst (λ (l : List ℕ). IsTorn (end_of chain - 1) 1 (written (end_of chain) l file) c) spelled at_end in
+        ⊎_elim (λ is. inl (before c rows is has)) (λ is. inr (after c rows is has)) (torn_commit file chain stands.bytes s next c spelled_out))
+        torn)
 
     -- the journal is settled again
     pub settled_put : new.queue ≡ queued old.queue document operation variables → new.places ≡ old.places ++ old.queue.end ∷ []
@@ -85,37 +85,42 @@ module _ {D : Type 0} (reads : D → Option (List ℕ)) (kept : D → ℕ) (may_
           end = omega (arith, ends, size, long, settled.end);
           empty = λ none. (let e = ap length rows in let e' = length-append old.queue.rows (s.row ∷ []) in let e'' = ap length none in absurd (omega (arith, e, e', e'')));
           inside = subst (All (λ (place : ℕ). place < new.queue.end)) (sym places) (All-push (λ (place : ℕ). place < new.queue.end) old.places old.queue.end
-            (All-weaker (λ (place : ℕ). place < old.queue.end) (λ (place : ℕ). place < new.queue.end) (λ place below. omega (arith, below, ends)) old.places settled.inside) (omega (arith, ends)));
+              (All-weaker (λ (place : ℕ). place < old.queue.end) (λ (place : ℕ). place < new.queue.end) (λ place below. omega (arith, below, ends)) old.places settled.inside) (omega (arith, ends)));
           told = λ file' told'.
-            let was = map_some _ (reads old.disk) file' (sym file ∙ told') in
-            let told = settled.told was.0 was.1 in
-            let chain = told.0.0 in
-            let stands = told.0.1 in
-            let next = follows old.queue document operation variables settled.limit can (last_number 0 chain) stands.greatest in
-            let is = put_file was.0 chain stands.bytes s next in
-            let same : file' ≡ written (end_of chain - 1) (1 ∷ []) (written (end_of chain) (with_record s (0 ∷ [])) was.0) =
-              was.2 ∙ ap (λ (k : ℕ). written (k - 1) (1 ∷ []) (written k bytes was.0)) stands.end ∙ ap (λ (l : List ℕ). written (end_of chain - 1) (1 ∷ []) (written (end_of chain) l was.0)) spelled in
-            ((chain ++ s ∷ [], record {
-              bytes = subst (λ f. IsQueueFile f (chain ++ s ∷ [])) (sym same) is;
-              rows = rows ∙ ap (λ l. l ++ s.row ∷ []) stands.rows ∙ sym (held_append chain (s ∷ []));
-              end = ends ∙ ap (λ (k : ℕ). k + need) stands.end ∙ sym (end_push chain s);
-              greatest = (let e = last_push 0 chain s in let e' = ap (λ (q : MutationQueue). q.greatest) queue in omega (arith, e, e'));
-              at = places ∙ ap (λ l. l ++ old.queue.end ∷ []) stands.at ∙ (let e : old.queue.end ≡ 8 + length (with_chain chain []) + 1 = omega (arith, stands.end) in ap (λ (k : ℕ). state_places 8 chain ++ k ∷ []) e)
-                ∙ sym (places_append 8 chain (s ∷ []) ∙ ap (λ l. state_places 8 chain ++ l) (places_first (8 + length (with_chain chain [])) s [] refl));
-            }), durable file' told');
+              let was = map_some _ (reads old.disk) file' (sym file ∙ told') in
+              let told = settled.told was.0 was.1 in
+              let chain = told.0.0 in
+              let stands = told.0.1 in
+              let next = follows old.queue document operation variables settled.limit can (last_number 0 chain) stands.greatest in
+              let is = put_file was.0 chain stands.bytes s next in
+              let same : file' ≡ written (end_of chain - 1) (1 ∷ []) (written (end_of chain) (with_record s (0 ∷ [])) was.0) =
+              was.2 ∙ ap (λ (k : ℕ). written (k - 1) (1 ∷ []) (written k bytes was.0)) stands.end ∙ ap (λ (l : List ℕ). written (end_of chain - 1) (1 ∷ []) (written (end_of chain) l was.0)) spelled in (
+                (
+                  chain ++ s ∷ [],
+                  record {
+                    bytes = subst (λ f. IsQueueFile f (chain ++ s ∷ [])) (sym same) is;
+                    rows = rows ∙ ap (λ l. l ++ s.row ∷ []) stands.rows ∙ sym (held_append chain (s ∷ []));
+                    end = ends ∙ ap (λ (k : ℕ). k + need) stands.end ∙ sym (end_push chain s);
+                    greatest = (let e = last_push 0 chain s in let e' = ap (λ (q : MutationQueue). q.greatest) queue in omega (arith, e, e'));
+                    at = places ∙ ap (λ l. l ++ old.queue.end ∷ []) stands.at ∙ (let e : old.queue.end ≡ 8 + length (with_chain chain []) + 1 = omega (arith, stands.end) in ap (λ (k : ℕ). state_places 8 chain ++ k ∷ []) e)
+                        ∙ sym (places_append 8 chain (s ∷ []) ∙ ap (λ l. state_places 8 chain ++ l) (places_first (8 + length (with_chain chain [])) s [] refl));
+                  },
+                ),
+                durable file' told',
+              );
         }
 
     -- the same, where the call names the disk and the end in another way
     module _ (disk : D) (end : ℕ) (disk_is : disk ≡ old.disk) (end_is : end ≡ old.queue.end) where
       pub put_crash_at : ((file : List ℕ) × (reads old.disk ≡ Some file))
           → WhereTold (reads disk) (λ file. Only file (may_leave disk) → LeavesOnly moment left_since disk new.disk
-            (λ c. IsTorn end (length bytes) file c ⊎ IsTorn (end - 1) 1 (written end bytes file) c))
+          (λ c. IsTorn end (length bytes) file c ⊎ IsTorn (end - 1) 1 (written end bytes file) c))
           → Leaves reads kept may_leave moment left_since only_now old new (IsRowsBeforeOrAfter old.queue.rows (queued old.queue document operation variables).rows)
       put_crash_at tells run =
           let at_disk = subst (λ (d : D). WhereTold (reads d) (λ file. Only file (may_leave d) → LeavesOnly moment left_since d new.disk
-            (λ c. IsTorn end (length bytes) file c ⊎ IsTorn (end - 1) 1 (written end bytes file) c))) disk_is run in
+          (λ c. IsTorn end (length bytes) file c ⊎ IsTorn (end - 1) 1 (written end bytes file) c))) disk_is run in
           put_crash tells (subst (λ (k : ℕ). WhereTold (reads old.disk) (λ file. Only file (may_leave old.disk) → LeavesOnly moment left_since old.disk new.disk
-            (λ c. IsTorn k (length bytes) file c ⊎ IsTorn (k - 1) 1 (written k bytes file) c))) end_is at_disk)
+          (λ c. IsTorn k (length bytes) file c ⊎ IsTorn (k - 1) 1 (written k bytes file) c))) end_is at_disk)
 
       pub settled_put_at : new.queue ≡ queued old.queue document operation variables → new.places ≡ old.places ++ old.queue.end ∷ []
           → reads new.disk ≡ option_map (λ file. written (end - 1) (1 ∷ []) (written end bytes file)) (reads disk)
@@ -123,7 +128,7 @@ module _ {D : Type 0} (reads : D → Option (List ℕ)) (kept : D → ℕ) (may_
           → WhereTold (reads new.disk) (λ file. Only file (may_leave new.disk)) → IsSettled reads kept may_leave new
       settled_put_at queue places file size durable =
           settled_put queue places
-            (file ∙ ap (λ (d : D). option_map (λ f. written (end - 1) (1 ∷ []) (written end bytes f)) (reads d)) disk_is
-              ∙ ap (λ (k : ℕ). option_map (λ f. written (k - 1) (1 ∷ []) (written k bytes f)) (reads old.disk)) end_is)
-            (size ∙ ap (λ (d : D). max (kept d) (end + length bytes)) disk_is ∙ ap (λ (k : ℕ). max (kept old.disk) (k + length bytes)) end_is)
-            durable
+          (file ∙ ap (λ (d : D). option_map (λ f. written (end - 1) (1 ∷ []) (written end bytes f)) (reads d)) disk_is
+          ∙ ap (λ (k : ℕ). option_map (λ f. written (k - 1) (1 ∷ []) (written k bytes f)) (reads old.disk)) end_is)
+          (size ∙ ap (λ (d : D). max (kept d) (end + length bytes)) disk_is ∙ ap (λ (k : ℕ). max (kept old.disk) (k + length bytes)) end_is)
+          durable

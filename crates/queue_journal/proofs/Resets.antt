@@ -46,14 +46,19 @@ module _ {D : Type 0} (reads : D → Option (List ℕ)) (kept : D → ℕ) (may_
     empty = λ none. end;
     inside = subst (All (λ (k : ℕ). k < new.queue.end)) (sym (nil_from_length new.places nowhere)) (All-nil (λ (k : ℕ). k < new.queue.end));
     told = λ file is.
-      let facts = told file is in
-      (([], record {
-        bytes = subst (λ f. IsQueueFile f []) (sym facts.0.3) (empty_chain facts.0.1 facts.0.0 facts.0.2);
-        rows = rows;
-        end = end;
-        greatest = omega arith;
-        at = nil_from_length new.places nowhere;
-      }), facts.1);
+        let facts = told file is in (
+          (
+            [],
+            record {
+              bytes = subst (λ f. IsQueueFile f []) (sym facts.0.3) (empty_chain facts.0.1 facts.0.0 facts.0.2);
+              rows = rows;
+              end = end;
+              greatest = omega arith;
+              at = nil_from_length new.places nowhere;
+            },
+          ),
+          facts.1,
+        );
   }
 
   module _ (old new : OpenJournal D) (settled : IsSettled reads kept may_leave old) (none : old.queue.rows ≡ []) where
@@ -69,22 +74,22 @@ module _ {D : Type 0} (reads : D → Option (List ℕ)) (kept : D → ℕ) (may_
     reset_crash file told run =
         let is = closed file told in
         lifted reads kept may_leave moment left_since only_now old new _ _ run (λ c rows after has.
-          let cut = after_only may_leave moment left_since only_now (IsCutOrWhole 9) (may_leave old.disk) file c (settled.told file told).1 after in
-          one_list c rows [] has (⊎_elim
-            (λ whole. no_rows c (subst (λ f. IsQueueFile f []) (sym whole) is))
-            (λ shorter. no_rows c (subst (λ f. IsQueueFile f []) (sym (shorter ∙ ap (take 9) is.bytes)) (empty_chain is.commit [] is.closed)))
-            cut))
+        let cut = after_only may_leave moment left_since only_now (IsCutOrWhole 9) (may_leave old.disk) file c (settled.told file told).1 after in
+        one_list c rows [] has (⊎_elim
+        (λ whole. no_rows c (subst (λ f. IsQueueFile f []) (sym whole) is))
+        (λ shorter. no_rows c (subst (λ f. IsQueueFile f []) (sym (shorter ∙ ap (take 9) is.bytes)) (empty_chain is.commit [] is.closed)))
+        cut))
 
     pub settled_reset : new.queue ≡ old.queue → new.places ≡ old.places → reads new.disk ≡ option_map (take 9) (reads old.disk) → kept new.disk ≡ 9
         → WhereTold (reads new.disk) (λ file. Only file (may_leave new.disk)) → IsSettled reads kept may_leave new
     settled_reset queue places cut size durable =
         settled_empty new
-          (ap (λ (q : MutationQueue). q.rows) queue ∙ none)
-          (ap (λ (q : MutationQueue). q.end) queue ∙ settled.empty none)
-          (let e = ap (λ (q : MutationQueue). q.limit) queue in omega (arith, e, settled.limit))
-          (ap length places ∙ settled.counts ∙ ap length none)
-          (omega (arith, size))
-          (λ file' told'.
-            let was = map_some (take 9) (reads old.disk) file' (sym cut ∙ told') in
-            let is = closed was.0 was.1 in
-            (([], is.commit, is.closed, was.2 ∙ ap (take 9) is.bytes), durable file' told'))
+        (ap (λ (q : MutationQueue). q.rows) queue ∙ none)
+        (ap (λ (q : MutationQueue). q.end) queue ∙ settled.empty none)
+        (let e = ap (λ (q : MutationQueue). q.limit) queue in omega (arith, e, settled.limit))
+        (ap length places ∙ settled.counts ∙ ap length none)
+        (omega (arith, size))
+        (λ file' told'.
+        let was = map_some (take 9) (reads old.disk) file' (sym cut ∙ told') in
+        let is = closed was.0 was.1 in
+        (([], is.commit, is.closed, was.2 ∙ ap (take 9) is.bytes), durable file' told'))

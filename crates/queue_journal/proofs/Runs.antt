@@ -32,7 +32,7 @@ module _ {D : Type 0} (may_leave : D → List ℕ → Type 0) (moment : D → �
       → LeavesOnly moment left_since old new (After step (may_leave old))
   then_quiet step whole old mid new time follows time' crash =
       joined moment left_since old mid new (After step (may_leave old)) (may_leave mid) (After step (may_leave old))
-        (torn_call step whole old mid time follows) (quiet_call mid new time' crash) (λ c h. h) follows
+      (torn_call step whole old mid time follows) (quiet_call mid new time' crash) (λ c h. h) follows
 
   pub after_only : (step : List ℕ → List ℕ → Type 0) (outcomes : List ℕ → Type 0) (file c : List ℕ) → Only file outcomes → After step outcomes c → step file c
   after_only step outcomes file c only after = subst (λ d. step d c) (only after.0 after.1) after.2
@@ -48,7 +48,7 @@ module _ {D : Type 0} (may_leave : D → List ℕ → Type 0) (moment : D → �
       → LeavesOnly moment left_since old new (λ c. step file c ⊎ second later c)
   both_of_two step second old mid new file later run only run' only' =
       joined moment left_since old mid new (After step (may_leave old)) (After second (may_leave mid)) (λ c. step file c ⊎ second later c) run run'
-        (λ c after. inl (after_only step (may_leave old) file c only after)) (λ c after. inr (after_only second (may_leave mid) later c only' after))
+      (λ c after. inl (after_only step (may_leave old) file c only after)) (λ c after. inr (after_only second (may_leave mid) later c only' after))
 
 module _ {D : Type 0} (reads : D → Option (List ℕ)) (kept : D → ℕ) (may_leave : D → List ℕ → Type 0) (moment : D → ℕ) (left_since : D → ℕ → List ℕ → Type 0)
     (only_now : (disk : D) (c : List ℕ) → left_since disk (moment disk) c → may_leave disk c) where

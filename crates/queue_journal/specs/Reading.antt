@@ -39,9 +39,9 @@ ReadsText file at result = UnlessRefused result
 abbrev pub ReadsTexts : List ℕ → ℕ → Result TextsAt OpenError → Type 0
 ReadsTexts file at result = UnlessRefused result
     (λ found. FitsRecord found.document × FitsRecord found.operation × FitsRecord found.variables
-      × (drop at file ≡ with_text found.document (with_text found.operation (with_text found.variables (drop found.end file)))))
+    × (drop at file ≡ with_text found.document (with_text found.operation (with_text found.variables (drop found.end file)))))
     ((document operation variables rest : List ℕ) → FitsRecord document → FitsRecord operation → FitsRecord variables
-      → drop at file ≢ with_text document (with_text operation (with_text variables rest)))
+    → drop at file ≢ with_text document (with_text operation (with_text variables rest)))
 
 -- the record can follow one with this number
 abbrev pub CanStand : ℕ → StoredRow → Type 0

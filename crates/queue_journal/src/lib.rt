@@ -22,4 +22,3 @@ mod texts;
 
 pub use error::OpenError;
 pub use journal::{Journal, Unopened};
-

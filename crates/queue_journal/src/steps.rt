@@ -50,7 +50,7 @@ pub fn append_record<D: Disk>(disk: &mut D, end: u64, record: &[u8]) -> Result<(
     ensures durable { OnOk result (WhereTold (D.reads disk.new) (λ file. Only file (D.may_leave disk.new))) }
     ensures crash { WhereTold (D.reads disk.old) (λ file. Only file (D.may_leave disk.old)
         → LeavesOnly D.moment D.left_since disk.old disk.new (λ c. IsTorn end (length record.now) file c
-            ⊎ IsTorn (end - 1) 1 (written end record.now file) c)) }
+        ⊎ IsTorn (end - 1) 1 (written end record.now file) c)) }
     ensures cause { HasCause (D.faults disk.old) (D.faults disk.new) result }
 {
     write_synced(disk, end, record)?;
@@ -67,7 +67,7 @@ pub fn close_and_cut<D: Disk>(disk: &mut D) -> Result<(), Failed>
     ensures durable { OnOk result (WhereTold (D.reads disk.new) (λ file. Only file (D.may_leave disk.new))) }
     ensures crash { WhereTold (D.reads disk.old) (λ file. Only file (D.may_leave disk.old)
         → LeavesOnly D.moment D.left_since disk.old disk.new (λ c. IsTorn 8 1 file c
-            ⊎ IsCutOrWhole 9 (written 8 (0 ∷ []) file) c)) }
+        ⊎ IsCutOrWhole 9 (written 8 (0 ∷ []) file) c)) }
     ensures cause { HasCause (D.faults disk.old) (D.faults disk.new) result }
 {
     write_synced(disk, 8, &[0])?;

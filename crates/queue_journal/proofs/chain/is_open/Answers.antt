@@ -6,4 +6,4 @@ pub returns-clause-commit : goal.returns-clause-commit
 returns-clause-commit g c file told =
     let same = c.as_slice.ensures.value in
     commit_read file c.args.at (get_or c.as_slice.result.now 0 0)
-      (one_item c.as_slice.result.now (ap length same ∙ c.in_ok-bytes.ensures.count) ∙ same ∙ c.in_ok-bytes.ensures.bytes file told)
+    (one_item c.as_slice.result.now (ap length same ∙ c.in_ok-bytes.ensures.count) ∙ same ∙ c.in_ok-bytes.ensures.bytes file told)

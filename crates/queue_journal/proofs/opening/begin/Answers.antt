@@ -16,5 +16,5 @@ pub returns-clause-intact : goal.returns-clause-intact
 returns-clause-intact g c =
     let written = c.in_ok-write_synced.ensures in
     settled_begin g.D.Disk.reads g.D.Disk.kept g.D.Disk.may_leave g.D.Disk.moment g.D.Disk.left_since g.met.D.Disk.only_now c.args.disk.now _ c.requires.short
-      written.written (omega (arith, written.kept)) written.durable
-      (ap (λ q. q.rows) c.new.ensures.queue) (ap (λ q. q.end) c.new.ensures.queue) (let e = ap (λ q. q.limit) c.new.ensures.queue in omega (arith, e, c.requires.high)) (ap length c.new-2.ensures.items)
+    written.written (omega (arith, written.kept)) written.durable
+    (ap (λ q. q.rows) c.new.ensures.queue) (ap (λ q. q.end) c.new.ensures.queue) (let e = ap (λ q. q.limit) c.new.ensures.queue in omega (arith, e, c.requires.high)) (ap length c.new-2.ensures.items)

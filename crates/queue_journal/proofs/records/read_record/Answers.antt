@@ -13,7 +13,7 @@ returns-in_err-texts-clause-reads g c file told long =
     let head = c.in_ok-head.ensures in
     let p = err_from_is_err_and c.from_residual-in_err-texts.result c.from_residual-in_err-texts.ensures.1 in
     rw (p.1, p.2) (no_record_texts file c.args.at c.in_ok-head.head.state c.in_ok-head.head.seq head.number (head.head file told) c.args.low c.in_err-texts.field-0.0
-      (c.in_err-texts.ensures.reads file (c.read_head.ensures.quiet.file ∙ told) long))
+    (c.in_err-texts.ensures.reads file (c.read_head.ensures.quiet.file ∙ told) long))
 
 pub returns-clause-reads : goal.returns-clause-reads
 returns-clause-reads g c file told long =
@@ -21,5 +21,5 @@ returns-clause-reads g c file told long =
     let texts = c.in_ok-texts.ensures.reads file (c.read_head.ensures.quiet.file ∙ told) long in (
       (omega arith, omega arith, texts.0, texts.1, texts.2),
       at_head file c.args.at c.in_ok-head.head.state c.in_ok-head.head.seq head.number (head.head file told)
-        ∙ ap (λ l. c.in_ok-head.head.state ∷ (to_be_bytes w64 c.in_ok-head.head.seq ++ l)) texts.3,
+          ∙ ap (λ l. c.in_ok-head.head.state ∷ (to_be_bytes w64 c.in_ok-head.head.seq ++ l)) texts.3,
     )

@@ -9,9 +9,9 @@ returns-in_err-cut-clause-crash g c =
 pub returns-in_err-sync-clause-crash : goal.returns-in_err-sync-clause-crash
 returns-in_err-sync-clause-crash g c =
     then_quiet g.D.Disk.may_leave g.D.Disk.moment g.D.Disk.left_since g.met.D.Disk.only_now (IsCutOrWhole c.args.len) (whole_cut _) _ _ _
-      c.cut.ensures.time c.cut.ensures.crash c.sync.ensures.time c.sync.ensures.crash
+    c.cut.ensures.time c.cut.ensures.crash c.sync.ensures.time c.sync.ensures.crash
 
 pub returns-clause-crash : goal.returns-clause-crash
 returns-clause-crash g c =
     then_quiet g.D.Disk.may_leave g.D.Disk.moment g.D.Disk.left_since g.met.D.Disk.only_now (IsCutOrWhole c.args.len) (whole_cut _) _ _ _
-      c.cut.ensures.time c.cut.ensures.crash c.sync.ensures.time c.sync.ensures.crash
+    c.cut.ensures.time c.cut.ensures.crash c.sync.ensures.time c.sync.ensures.crash

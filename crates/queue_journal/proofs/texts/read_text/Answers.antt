@@ -13,7 +13,7 @@ pub returns-then-length-start-clause-reads : goal.returns-then-length-start-clau
 returns-then-length-start-clause-reads g c file told long =
     let size = c.in_ok-read_size.ensures in
     no_text_cut file c.args.at c.in_ok-read_size.field-0 size.small (size.bytes file told)
-      (let e = length-drop (c.args.at + 4) file in let e' = c.from-size.ensures in omega (arith, e, e', long))
+    (let e = length-drop (c.args.at + 4) file in let e' = c.from-size.ensures in omega (arith, e, e', long))
 
 pub returns-in-Ok-clause-reads : goal.returns-in-Ok-clause-reads
 returns-in-Ok-clause-reads g c file told long =
@@ -33,4 +33,4 @@ returns-clause-reads g c file told long =
     let spelled = ap (to_be_bytes w32) c.from-size.ensures ∙ size.bytes file told in
     let bytes = c.in_ok-bytes.ensures in
     no_text_utf8 file c.args.at c.from-size.result small spelled c.in_ok-bytes.bytes.items bytes.count (bytes.bytes file (c.read_size.ensures.quiet.file ∙ told))
-      (λ utf8. let differs : false ≡ true = c.in-Err.ensures.succeeds utf8 in cc)
+    (λ utf8. let differs : false ≡ true = c.in-Err.ensures.succeeds utf8 in cc)
