@@ -1,0 +1,13 @@
+mod Links
+mod OneByte
+mod Openings
+mod Pieces
+mod Chains
+mod Dones
+mod Fields
+mod Heads
+mod Images
+mod Kept
+mod Puts
+mod Resets
+mod Runs
