@@ -1,1 +1,2 @@
-mod Fetches
+pub mod Agreement
+pub mod Lawful

@@ -11,13 +11,8 @@ use Rattle.stream_core.specs.declared.calls.Call.{Call}
 use Rattle.stream_core.specs.declared.calls.Call.TheVariants as call
 use Rattle.stream_core.specs.Phases.{talked_to}
 use Rattle.stream_core.specs.Turns.{Turn, TurnOnto, Within}
+use Rattle.stream_core.specs.Walks.{Walk}
 use Rattle.stream_core.specs.Played.{before_close, has_end, Flows, Played}
-
--- the turns of the calls, one after the other, lead from one phase to the other and give these signals
-abbrev pub Walk : {A B : Type 0} → (A → List B → Bool → Type 0) → Phase → List (Call A) → List (Signal B) → Phase → Type 0
-Walk gives p [] given q = (given ≡ []) × (p ≡ q)
-Walk {A} {B} gives p (call.Push s ∷ calls) given q = (mid : Phase) × (more : List (Signal B)) × (rest : List (Signal B)) × Turn gives p s mid more × (given ≡ more ++ rest) × Walk gives mid calls rest q
-Walk gives p (call.Talk t ∷ calls) given q = Walk gives (talked_to p t) calls given q
 
 pub over : {A B : Type 0} (gives : A → List B → Bool → Type 0) (calls : List (Call A)) (given : List (Signal B)) (q : Phase) → Walk gives Over calls given q → given ≡ []
 over gives [] given q w = w.0
@@ -28,6 +23,15 @@ over {A} {B} gives (call.Push s ∷ calls) given q (mid, more, rest, turn, e, w)
     e ∙ cc
 over gives (call.Talk Pull ∷ calls) given q w = over gives calls given q w
 over gives (call.Talk Close ∷ calls) given q w = over gives calls given q w
+
+-- and it stays over
+pub stays_over : {A B : Type 0} (gives : A → List B → Bool → Type 0) (calls : List (Call A)) (given : List (Signal B)) (q : Phase) → Walk gives Over calls given q → q ≡ Over
+stays_over gives [] given q w = sym w.1
+stays_over {A} {B} gives (call.Push s ∷ calls) given q (mid, more, rest, turn, e, w) =
+    let P : Phase → Type 0 = λ p. Walk gives p calls rest q in
+    stays_over gives calls rest q (subst P turn.0 w)
+stays_over gives (call.Talk Pull ∷ calls) given q w = stays_over gives calls given q w
+stays_over gives (call.Talk Close ∷ calls) given q w = stays_over gives calls given q w
 
 pub flows : {A B : Type 0} (gives : A → List B → Bool → Type 0) (calls : List (Call A)) (given : List (Signal B)) (q : Phase) → Walk gives Flowing calls given q → Flows gives (before_close calls) given
 flows gives [] given q w = ([], false, (refl, refl), w.0)

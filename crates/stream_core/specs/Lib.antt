@@ -1,4 +1,11 @@
+pub mod Drained
+pub mod Exchanges
+pub mod Lines
+pub mod NumberMaps
 pub mod Phases
 pub mod Played
 pub mod Stages
+pub mod Through
+pub mod Transcripts
 pub mod Turns
+pub mod Walks

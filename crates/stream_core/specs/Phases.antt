@@ -1,5 +1,5 @@
 -- When a signal has its turn at a stage, and what a talk makes of it.
-use Rattle.std.specs.Prelude.{Option, Some, None}
+use Rattle.std.specs.Prelude.{◌≡◌, Option, Some, None}
 use Rattle.stream_core.specs.declared.phase.Phase.{Phase}
 use Rattle.stream_core.specs.declared.phase.Phase.TheVariants.{Waiting, Flowing, Over}
 use Rattle.stream_core.specs.declared.signal.Signal.{Signal}
@@ -38,3 +38,9 @@ upward Over Pull = Close
 abbrev pub talked_to : Phase → Talk → Phase
 talked_to p Pull = p
 talked_to p Close = Over
+
+-- the first of two stages in a chain stands where the second does, unless the second is over
+abbrev pub Aligned : Phase → Phase → Type 0
+Aligned p Over = Unit {0}
+Aligned p Waiting = p ≡ Waiting
+Aligned p Flowing = p ≡ Flowing

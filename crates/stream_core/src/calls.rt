@@ -22,7 +22,7 @@ pub fn play<S: Stage>(
 ) -> Result<(), Memory>
     requires ready { S.ready stage.old }
     requires waits { S.phase stage.old ≡ Waiting }
-    ensures ready { S.ready stage.new }
+    ensures ready { OnOk result (S.ready stage.new) }
     ensures played { OnOk result
         (PlayedOnto (S.gives stage.old) calls.items out.old.items out.new.items) }
 {

@@ -21,14 +21,15 @@ pub trait Stage {
     /// What it gives for an item that flows, and whether that is its last.
     ghost gives: { Self → Self.In → List Self.Out → Bool → Type 0 };
 
-    /// Takes a signal, and puts what it gives behind `out`.
+    /// Takes a signal, and puts what it gives behind `out`. A stage that answered out of memory isn't
+    /// pushed into again.
     fn push(
         &mut self,
         signal: Signal<Self::In>,
         out: &mut Vec<Signal<Self::Out>>,
     ) -> Result<(), Memory>
         requires { ready self.old }
-        ensures ready { ready self.new }
+        ensures ready { OnOk result (ready self.new) }
         ensures same { Within (gives self.old) (gives self.new) }
         ensures turn { OnOk result
             (TurnOnto (gives self.old) (phase self.old) signal (phase self.new) out.old.items out.new.items) };

@@ -1,5 +1,5 @@
 //! Each stage at a concrete type, played Start, the items 1 to 4 and End.
-use crate::{Call, Filter, Map, MergeMap, Share, Signal, Stage, TakeUntil, Talk, Tap, play};
+use crate::{Call, Chain, Filter, Map, MergeMap, Share, Signal, Stage, TakeUntil, Talk, Tap, play};
 use std::alloc::Global;
 use std::test::Fail;
 use text_types::Memory;
@@ -137,4 +137,25 @@ fn merge_map_joins_and_share_numbers(rt: HostRuntime) -> Result<(), Fail> {
 
 fn twice(alloc: Global, x: u64) -> Result<Vec<u64>, Memory> {
     Ok(Vec::from_array(alloc, [x, x.wrapping_add(10)])?)
+}
+
+#[test]
+fn a_chain_composes(rt: HostRuntime) -> Result<(), Fail> {
+    let alloc = rt.alloc();
+    let mut given = Vec::new(alloc);
+    let even = Filter::new(|x: &u64| *x % 2 == 0);
+    let mut chain = Chain::new(alloc, even, MergeMap::new(move |x: u64| twice(alloc, x)));
+    assert_eq!(rt; chain.talk(Talk::Pull), Talk::Pull);
+    play(&mut chain, one_to_four(alloc)?, &mut given)?;
+    let wanted = [
+        Signal::Start,
+        Signal::Push(2u64),
+        Signal::Push(12),
+        Signal::Push(4),
+        Signal::Push(14),
+        Signal::End,
+    ];
+    assert_eq!(rt; given.as_slice(), wanted.as_slice());
+    assert_eq!(rt; chain.talk(Talk::Pull), Talk::Close);
+    Ok(())
 }

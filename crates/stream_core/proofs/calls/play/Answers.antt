@@ -5,7 +5,8 @@ use Rattle.std.proofs.lemmas.Iterator.Adapters.{YieldsList-from_vec}
 use Rattle.stream_core.specs.declared.phase.Phase.TheVariants.{Waiting}
 use Rattle.stream_core.specs.declared.calls.Call.{Call}
 use Rattle.stream_core.specs.Played.{Played}
-use Rattle.stream_core.proofs.Walks.{Walk, pushed, talked, walk_plays}
+use Rattle.stream_core.specs.Walks.{Walk}
+use Rattle.stream_core.proofs.Walks.{pushed, talked, walk_plays}
 use Rattle.stream_core.proofs.calls.play.Goals as goal
 
 pub loop-call-preserved-in-Continue-1 : goal.loop-call-preserved-in-Continue-1
@@ -14,7 +15,7 @@ loop-call-preserved-in-Continue-1 g c =
     let held = c.loop-call.invariant.2 in
     let next = pushed gives (g.S.Stage.gives c.loop-call.stage) c.loop-call.invariant.1 Waiting c.loop-call.yielded held.0 (g.S.Stage.phase c.loop-call.stage) held.2 c.args.out.now.items c.loop-call.out.items held.1 c.in-Push.signal (g.S.Stage.phase c.push.new.self) c.push.new.out.items (search rules) in
     let P : Call g.row.S-In.Denot → Type 0 = λ call. Walk gives Waiting (c.loop-call.yielded ++ call ∷ []) next.0 (g.S.Stage.phase c.push.new.self) in
-    (c.push.ensures.ready, λ x ys ends k. c.loop-call.invariant.1 x ys ends (c.push.ensures.same x ys ends k), (next.0, next.1, subst P (sym c.in-Push.is) next.2))
+    (search rules, λ x ys ends k. c.loop-call.invariant.1 x ys ends (c.push.ensures.same x ys ends k), (next.0, next.1, subst P (sym c.in-Push.is) next.2))
 
 pub loop-call-preserved : goal.loop-call-preserved
 loop-call-preserved g c =

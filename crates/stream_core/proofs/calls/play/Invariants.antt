@@ -1,7 +1,7 @@
 use Rattle.std.proofs.Common.{◌≡◌, ◌++◌, List}
 use Rattle.stream_core.specs.declared.phase.Phase.TheVariants.{Waiting}
 use Rattle.stream_core.specs.Turns.{Within}
-use Rattle.stream_core.proofs.Walks.{Walk}
+use Rattle.stream_core.specs.Walks.{Walk}
 use Rattle.stream_core.proofs.calls.play.Given as goal
 
 abbrev pub invariant-loop-call : goal.invariant-loop-call

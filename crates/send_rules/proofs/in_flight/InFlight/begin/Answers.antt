@@ -1,6 +1,6 @@
 use Rattle.std.proofs.Common.{ap, ◌∙◌}
 use Rattle.std.specs.FinMap as map
-use Rattle.send_rules.proofs.Fetches.{inserted}
+use Rattle.stream_core.specs.NumberMaps.{inserted}
 use Rattle.send_rules.proofs.in_flight.InFlight.begin.Goals as goal
 
 pub returns-clause-ok : goal.returns-clause-ok

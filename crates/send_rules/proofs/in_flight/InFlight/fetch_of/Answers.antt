@@ -1,6 +1,6 @@
 use Rattle.std.proofs.Common.{ap, sym, ◌∙◌}
 use Rattle.std.specs.FinMap as map
-use Rattle.send_rules.proofs.Fetches.{get_is_found}
+use Rattle.stream_core.specs.NumberMaps.{get_is_found}
 use Rattle.send_rules.proofs.in_flight.InFlight.fetch_of.Goals as goal
 
 pub returns : goal.returns

@@ -1,6 +1,6 @@
 use Rattle.std.proofs.Common.{ap, ◌∙◌}
 use Rattle.std.specs.FinMap as map
-use Rattle.send_rules.proofs.Fetches.{removed}
+use Rattle.stream_core.specs.NumberMaps.{removed}
 use Rattle.send_rules.proofs.in_flight.InFlight.forget.Goals as goal
 
 pub returns : goal.returns
