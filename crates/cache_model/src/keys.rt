@@ -139,8 +139,7 @@ impl FieldKey {
     pub fn has_name(&self, name: &Text) -> bool
         ensures { result ≡ bytes_eq name.now (field_name_of self.now) }
     {
-        let field = self.text.as_bytes();
-        name.as_bytes() == &field[..name_len(field)]
+        text_has_name(&self.text, name)
     }
 }
 
@@ -180,6 +179,14 @@ impl Ord for FieldKey {
     fn cmp(&self, other: &FieldKey) -> Ordering {
         self.text.cmp(&other.text)
     }
+}
+
+/// Whether the text of a field's key has this name. Takes no memory.
+pub fn text_has_name(field: &Text, name: &Text) -> bool
+    ensures { result ≡ bytes_eq name.now (field_name_of field.now) }
+{
+    let field = field.as_bytes();
+    name.as_bytes() == &field[..name_len(field)]
 }
 
 /// How many bytes stand before the first `(`.

@@ -18,7 +18,7 @@ mod tests;
 mod write;
 
 pub use cell::{Cell, Cells, Link, Links};
-pub use keys::{EntityKey, FieldKey};
+pub use keys::{EntityKey, FieldKey, text_has_name};
 pub use kind::Kind;
 pub use laws::{fills_commute, writes_by_effect};
 pub use write::{Visited, Write, Writes};

@@ -1,8 +1,7 @@
-ghost use Rattle.std.specs.Prelude.{◌≡◌, ◌<◌, ◌≤◌, ◌==◌, IfSome, position, unwrap_or, length, is_some, bytes_eq};
-ghost use Rattle.cache_model.specs.Keys.{field_name_of};
+ghost use Rattle.std.specs.Prelude.{◌≡◌, is_some};
 ghost use Rattle.cache_model.specs.Maps as spec;
 
-use cache_model::{EntityKey, FieldKey, Write};
+use cache_model::{EntityKey, FieldKey, Write, text_has_name};
 use text_types::Text;
 
 /// Whether a write says something of the cell at a field of an object. Takes no memory.
@@ -26,29 +25,7 @@ fn covers_field(write: &Write, field: &Text) -> bool
     match write {
         Write::Set(_, own, _) => own.as_text() == field,
         Write::Drop(_, own) => own.as_text() == field,
-        Write::DropName(_, name) => has_name(field, name),
+        Write::DropName(_, name) => text_has_name(field, name),
         Write::DropAll(_) => true,
     }
-}
-
-fn has_name(field: &Text, name: &Text) -> bool
-    ensures { result ≡ bytes_eq name.now (field_name_of field.now) }
-{
-    let field = field.as_bytes();
-    name.as_bytes() == &field[..name_len(field)]
-}
-
-/// How many bytes stand before the first `(`.
-fn name_len(field: &[u8]) -> usize
-    ensures value { result ≡ unwrap_or (position (λ b. b == 40) field.now) (length field.now) }
-    ensures within { result ≤ length field.now }
-{
-    parenthesis(field).unwrap_or(field.len())
-}
-
-fn parenthesis(field: &[u8]) -> Option<usize>
-    ensures value { result ≡ position (λ b. b == 40) field.now }
-    ensures within { IfSome result (λ at. at < length field.now) }
-{
-    field.iter().position(|byte| *byte == b'(')
 }
