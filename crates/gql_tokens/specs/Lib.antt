@@ -1,0 +1,10 @@
+pub mod Blocks
+pub mod Characters
+pub mod Lexemes
+pub mod Names
+pub mod Nesting
+pub mod Numbers
+pub mod Places
+pub mod Runs
+pub mod Strings
+pub mod Tokens
