@@ -1,0 +1,34 @@
+-- What the values of the code mean in the terms of the definitions.
+use Rattle.std.specs.Prelude.{◌≡◌, ℕ, ◌+◌, ◌<◌, ◌≤◌, ◌^◌, List, [], ◌∷◌, Option, Some, None, length, drop, encode_utf8, unwrap_or, option_map}
+use Rattle.gql_tokens.specs.declared.token.Place.{Place}
+use Rattle.gql_tokens.specs.declared.token.Kind.{Kind}
+use Rattle.gql_tokens.specs.declared.token.Kind.TheVariants.{Fault, End}
+use Rattle.gql_tokens.specs.declared.characters.Character.{Character}
+use Rattle.gql_tokens.specs.declared.characters.Character.TheVariants.{Source, Escaped, Mark}
+use Rattle.gql_tokens.specs.declared.runs.Context.{Context}
+use Rattle.gql_tokens.specs.declared.runs.Context.TheVariants as context
+use Rattle.gql_tokens.specs.Runs.{Rule}
+use Rattle.gql_tokens.specs.Strings.{string_character}
+use Rattle.gql_tokens.specs.Blocks.{block_mark, block_character}
+use Rattle.gql_tokens.specs.Places.{place_after}
+use Rattle.gql_tokens.specs.Lexemes.{comment_character, token_at}
+
+-- what a character means, and how many bytes it takes
+abbrev pub meant : Character → List ℕ × ℕ
+meant (Source character) = (character.now, length character.now)
+meant (Escaped character len) = (encode_utf8 character, len)
+meant Mark = (block_mark, 4)
+
+-- the rule of the characters in a context
+abbrev pub rule_of : Context → Rule
+rule_of context.Comment = comment_character
+rule_of context.String = string_character
+rule_of context.Block = block_character
+
+-- the character takes a byte at least, and none behind the text
+abbrev pub Fits : List ℕ → List ℕ × ℕ → Type 0
+Fits text character = (0 < character.1) × (character.1 ≤ length text)
+
+-- rows and columns behind the text still fit in 64 bits
+abbrev pub HasRoom : Place → List ℕ → Type 0
+HasRoom place text = (place.row + length text < 2 ^ 64) × (place.column + length text < 2 ^ 64)
