@@ -1,3 +1,5 @@
+pub mod BlockLaws
+pub mod BlockTextLaws
 pub mod CharacterLaws
 pub mod Choices
 pub mod FormLaws

@@ -1,6 +1,6 @@
 //! A cursor over the tokens of a text.
 
-ghost use Rattle.std.specs.Prelude.{◌≡◌, ◌∷◌, ℕ, Some, false};
+ghost use Rattle.std.specs.Prelude.{◌≡◌, ◌<◌, length, false};
 ghost use Rattle.gql_tokens.specs.Tokens.{tokens_of};
 ghost use Rattle.gql_tokens.specs.Heads.{is_last};
 ghost use Rattle.gql_tokens.specs.Cursors.{first_kind, first_text, first_place, tokens_behind_first};
@@ -65,7 +65,8 @@ impl<'a> Lexer<'a> {
     /// Goes on behind the first token, which is neither a fault nor the end.
     pub fn advance(&mut self)
         requires { is_last (first_kind self.old) ≡ false }
-        ensures { self.new ≡ tokens_behind_first self.old }
+        ensures rest { self.new ≡ tokens_behind_first self.old }
+        ensures shorter { length self.new < length self.old }
     {
         self.head = next_head(&self.head);
     }

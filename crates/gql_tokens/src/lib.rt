@@ -2,6 +2,7 @@
 //! 2.1 and 2.9). It stands on the texts and lists of `text_types`.
 #![tactic(auto)]
 
+mod block_values;
 mod blocks;
 mod brackets;
 mod characters;
@@ -16,6 +17,7 @@ mod places;
 mod runs;
 mod strings;
 mod token;
+mod values;
 
 pub use brackets::nesting;
 pub use error::SyntaxError;
@@ -24,3 +26,4 @@ pub use lexing::lex;
 pub use names::name_text;
 pub use numbers::integer_value;
 pub use token::{Kind, Place, Token, Tokens};
+pub use values::string_value;

@@ -1,6 +1,6 @@
 //! The characters of a comment, a string or a block string, one after another.
 
-ghost use Rattle.std.specs.Prelude.{◌≡◌, ◌≤◌, length, option_map, IfSome, IfOk, string_bytes};
+ghost use Rattle.std.specs.Prelude.{◌≡◌, ◌≤◌, length, option_map, ◌++◌, IfSome, IfOk, OnOk, string_bytes};
 ghost use Rattle.gql_tokens.specs.Runs as spec;
 ghost use Rattle.gql_tokens.specs.Lexemes as lexemes;
 ghost use Rattle.gql_tokens.specs.Readings.{meant, rule_of, Fits};
@@ -65,4 +65,28 @@ pub(crate) fn run_len(context: Context, text: &[u8]) -> usize
         rest = rest.split_at(taken).1;
     }
     len
+}
+
+/// What the characters of this context at the front mean together.
+pub(crate) fn run_value(alloc: Global, context: Context, text: &[u8]) -> Result<String, Memory>
+    ensures { IfOk result (λ s. string_bytes s ≡ (spec.run (rule_of context) text.now).0) }
+{
+    let mut value = String::new(alloc);
+    let mut rest = text;
+    'characters: while let Some(next) = character(context, rest) {
+        push_character(next, &mut value)?;
+        rest = rest.split_at(len_of(next)).1;
+    }
+    Ok(value)
+}
+
+fn push_character(character: Character<'_>, value: &mut String) -> Result<(), Memory>
+    ensures { OnOk result (string_bytes value.new ≡ string_bytes value.old ++ (meant character.entry).0) }
+{
+    match character {
+        Character::Source(source) => value.push_str(source)?,
+        Character::Escaped(character, _) => value.push(character)?,
+        Character::Mark => value.push_str("\"\"\"")?,
+    }
+    Ok(())
 }
