@@ -17,6 +17,8 @@ mod executables;
 mod literals;
 mod names;
 mod selections;
+#[cfg(test)]
+mod tests;
 mod type_systems;
 
 pub use documents::parse_document;
