@@ -2,7 +2,7 @@
 use Rattle.std.proofs.Common.{◌≡◌, ℕ, ◌||◌, List, [], ◌∷◌, ◌++◌, codes, bytes_eq, Option, Some, None, option_map, option_and_then, refl, sym, ap, ◌∙◌, append_assoc}
 use Rattle.std.specs.List.{list_any}
 use Rattle.serde_json.specs.Data.{Data}
-use Rattle.gql_documents.specs.declared.selection.Selection.{Selection}
+use Rattle.plain_queries.specs.declared.selection.Selection.{Selection}
 use Rattle.gate_machine.specs.declared.key.EntityKey.{EntityKey}
 use Rattle.gate_machine.specs.declared.cell.Cell.TheVariants.{Link}
 use Rattle.gate_machine.specs.declared.cell.Write.{Write}

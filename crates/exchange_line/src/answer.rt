@@ -9,7 +9,7 @@ ghost use Rattle.exchange_line.specs.Written.{Appends, typed_object_written};
 
 use crate::object_key::key_of_object;
 use gate_machine::{Cell, EntityKey, Owner, Write};
-use gql_documents::{Selection, SelectionSet};
+use plain_queries::{Selection, SelectionSet};
 use gql_value::Value;
 use serde_json::Value as Json;
 use std::alloc::Global;

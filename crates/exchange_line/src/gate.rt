@@ -10,7 +10,7 @@ use crate::frame::{Frame, frame_of, read_json};
 use crate::line::{Cause, push_fetch, push_refused, push_reply};
 use crate::reading::read_query;
 use gate_machine::{OpenOperation, Write};
-use gql_documents::{Document, SyntaxError, parse_document, sent_text};
+use plain_queries::{Document, SyntaxError, parse_document, sent_text};
 use gql_value::Value;
 use std::alloc::Global;
 use std::marker::Model;
@@ -26,7 +26,7 @@ pub struct Gate {
 impl Model for Gate {
     ghost use Rattle.std.specs.Coded.{codes};
     ghost use Rattle.gate_machine.specs.Machine.{GatewayState};
-    ghost use Rattle.gql_documents.specs.contracts.selection.Selection as selection;
+    ghost use Rattle.plain_queries.specs.contracts.selection.Selection as selection;
     ghost use Rattle.gql_value.specs.contracts.value.Value as value;
 
     ghost Value = { GatewayState };

@@ -9,7 +9,7 @@ ghost use Rattle.exchange_line.specs.Written.{key_told};
 
 use crate::member::member_text;
 use gate_machine::{EntityKey, Owner, Place};
-use gql_documents::SelectionSet;
+use plain_queries::SelectionSet;
 use serde_json::Value as Json;
 use std::alloc::Global;
 use text_types::{Items, Memory, Text};

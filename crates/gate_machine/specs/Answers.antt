@@ -6,8 +6,8 @@ use Rattle.serde_json.specs.Find.{as_i64, as_str, as_object, get}
 use Rattle.gql_value.specs.declared.value.Value.{Value}
 use Rattle.gql_value.specs.declared.value.Value.TheOpen.{Value-F}
 use Rattle.gql_value.specs.declared.value.Value.TheViews.{roll-Value}
-use Rattle.gql_documents.specs.declared.selection.Selection.{Selection, fold-Selection}
-use Rattle.gql_documents.specs.declared.selection.Selection.TheOpen.{Selection-F}
+use Rattle.plain_queries.specs.declared.selection.Selection.{Selection, fold-Selection}
+use Rattle.plain_queries.specs.declared.selection.Selection.TheOpen.{Selection-F}
 use Rattle.gate_machine.specs.declared.key.Owner.TheVariants.{Entity}
 use Rattle.gate_machine.specs.declared.key.EntityKey.{EntityKey}
 use Rattle.gate_machine.specs.declared.cell.Cell.{Cell}

@@ -4,8 +4,8 @@ use Rattle.std.specs.Prelude.{ℕ, ◌+◌, ◌-◌, ◌==◌, Bool, not, if◌t
 use Rattle.std.specs.List.{list_any}
 use Rattle.serde_json.specs.Data.{Data}
 use Rattle.gql_value.specs.declared.value.Value.{Value}
-use Rattle.gql_documents.specs.declared.selection.Selection.{Selection}
-use Rattle.gql_documents.specs.Queries.{query_of, sent_text_of}
+use Rattle.plain_queries.specs.declared.selection.Selection.{Selection}
+use Rattle.plain_queries.specs.Queries.{query_of, sent_text_of}
 use Rattle.gate_machine.specs.declared.cell.Write.{Write}
 use Rattle.gate_machine.specs.declared.operation.OpenOperation.{OpenOperation}
 use Rattle.gate_machine.specs.Cells.{History, flattened}

@@ -4,8 +4,8 @@ use Rattle.std.specs.Prelude.{ℕ, Bool, true, false, if◌then◌else◌, List,
 use Rattle.gql_value.specs.declared.value.Value.{Value, fold-Value}
 use Rattle.gql_value.specs.declared.value.Value.TheOpen.{Value-F}
 use Rattle.gql_value.specs.declared.value.Value.TheViews.{roll-Value}
-use Rattle.gql_documents.specs.declared.selection.Selection.{Selection, fold-Selection}
-use Rattle.gql_documents.specs.declared.selection.Selection.TheOpen.{Selection-F}
+use Rattle.plain_queries.specs.declared.selection.Selection.{Selection, fold-Selection}
+use Rattle.plain_queries.specs.declared.selection.Selection.TheOpen.{Selection-F}
 use Rattle.gate_machine.specs.declared.key.EntityKey.{EntityKey}
 use Rattle.gate_machine.specs.declared.cell.Cell.{Cell}
 use Rattle.gate_machine.specs.declared.cell.Cell.TheVariants.{Leaf, Link}

@@ -1,4 +1,4 @@
-use gql_documents::SelectionSet;
+use plain_queries::SelectionSet;
 
 /// An operation that was sent and waits for its response.
 #[derive(Debug, Drop)]

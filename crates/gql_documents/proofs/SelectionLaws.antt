@@ -1,98 +1,176 @@
--- One level of a selection, and fields one after another.
-use Rattle.std.proofs.Common.{◌≡◌, ℕ, suc, Bool, true, false, not, ◌&&◌, bytes_eq, List, [], ◌∷◌, ◌++◌, map, Option, Some, None, refl, sym, ap, ap₂, ◌∙◌}
-use Rattle.std.specs.List.{list_all, AllByRecursion}
-use Rattle.std.proofs.lemmas.List.{map-append}
-use Rattle.std.proofs.lemmas.List.Folds.{list_all-append, list_all-map}
-use Rattle.std.proofs.lemmas.Bool.{and_parts, and_from, not-true}
-use Rattle.text_types.specs.Names.{names_of, Lacks}
-use Rattle.gql_documents.specs.Tokens.{Token}
-use Rattle.gql_documents.specs.declared.selection.Selection.{Selection}
-use Rattle.gql_documents.specs.declared.selection.Selection.TheVariants.{Leaf, Set, rolls-Set, rolls-Leaf}
-use Rattle.gql_documents.specs.declared.selection.Selection.TheOpen.{Selection-F}
-use Rattle.gql_documents.specs.declared.selection.Selection.TheViews.{roll-Selection}
-use Rattle.gql_documents.specs.declared.selection.Selection.TheFolds.{fold-roll-Selection, ind-Selection}
-use Rattle.gql_documents.specs.Selections.{Fields, selection_tokens, tokens_step, spelled, selection_fits, fits_step, fields_fit, are_field_names, is_reserved, may_join}
-use Rattle.gql_documents.specs.Reading.{may_stand}
-use Rattle.gql_documents.specs.Queries.{selection_of}
+-- The laws of arguments, directives and selection sets.
+use Rattle.std.proofs.Common.{◌≡◌, ℕ, zero, suc, Bool, true, false, List, [], ◌∷◌, ◌++◌, Option, Some, None, refl, inl, inr}
+use Rattle.std.specs.Prelude.{codes}
+use Rattle.gql_tokens.specs.Tokens.{Token}
+use Rattle.gql_tokens.specs.declared.token.Kind.TheVariants as kind
+use Rattle.gql_model.specs.declared.name.Name.{Name}
+use Rattle.gql_model.specs.declared.selection.SelectionSet.{SelectionSet}
+use Rattle.gql_model.specs.declared.selection.Selection.{Selection}
+use Rattle.gql_model.specs.Sorts.{Sort, Mark, Word, mark, word}
+use Rattle.gql_model.specs.Rules.{Rule, Opt, Behind, Perhaps, Depth}
+use Rattle.gql_model.specs.Names.{any_name, fragment_name, NameRule}
+use Rattle.gql_model.specs.Selections.{argument_of, directive_of, field_of, field_selection, spread_of, inline_of, set_of, ArgumentRule, ArgumentsRule, DirectiveRule, DirectivesRule, SpreadRule, SelectionRule, SetOver, SetRule}
+use Rattle.gql_tokens.specs.declared.token.Place.{Place}
+use Rattle.gql_documents.specs.Parsing.{Parser}
+use Rattle.gql_documents.specs.Selections.{argument, arguments, arguments_if_any, directive, directives, renaming, field, spread, condition, inline, spreading, selection_start, selection, set_over, set}
+use Rattle.gql_documents.proofs.Laws.{Shape, Law, Lawful, Inhabited, origin, one_shape, law_seq}
+use Rattle.gql_documents.proofs.Manys.{Eats, law_many}
+use Rattle.gql_documents.proofs.Turns.{eats_lawful}
+use Rattle.gql_documents.proofs.Parts.{law_made, law_opt, law_either, law_here}
+use Rattle.gql_documents.proofs.Nestings.{Knot, again, law_nested}
+use Rattle.gql_documents.proofs.Forms.{law_fit, shape, loose, sample, law_mark, law_word, law_behind, law_between, law_between_deeper, law_more, law_perhaps}
+use Rattle.gql_documents.proofs.ValueLaws.{law_name, law_fragment_name, law_value}
 
--- ---- one level
+-- ---- arguments and directives
 
-pub selection_tokens-Leaf : selection_tokens Leaf ≡ []
-selection_tokens-Leaf = ap selection_tokens (sym rolls-Leaf) ∙ fold-roll-Selection (List Token) tokens_step Selection-F.Leaf
+pub law_argument : {n : ℕ} (constant : Bool) → Lawful n (ArgumentRule constant) (ArgumentRule constant) (argument constant) (argument constant) (shape any_name [])
+unfolding argument
+law_argument constant = law_fit (shape any_name []) (law_made argument_of (law_seq law_name (law_behind (law_mark kind.Colon refl) (law_value constant)))) refl
 
-pub selection_tokens-Set : (fields : Fields) → selection_tokens (Set fields) ≡ spelled fields
-selection_tokens-Set fields = ap selection_tokens (sym (rolls-Set fields)) ∙ fold-roll-Selection (List Token) tokens_step (Selection-F.Set fields)
+pub law_arguments_if_any : {n : ℕ} (constant : Bool) → Lawful n (Perhaps (ArgumentsRule constant)) (Perhaps (ArgumentsRule constant)) (arguments_if_any constant) (arguments_if_any constant) (loose (mark kind.ParenOpen) (mark kind.ParenOpen))
+unfolding arguments_if_any arguments
+law_arguments_if_any constant =
+    law_fit (loose (mark kind.ParenOpen) (mark kind.ParenOpen))
+    (law_perhaps (mark kind.ParenOpen) (law_between kind.ParenOpen kind.ParenClose refl refl (law_more any_name (law_argument constant)))) refl
 
-pub selection_fits-Leaf : (room : ℕ) → selection_fits Leaf room ≡ true
-selection_fits-Leaf room = ap (λ s. selection_fits s room) (sym rolls-Leaf) ∙ ap (λ f. f room) (fold-roll-Selection (ℕ → Bool) fits_step Selection-F.Leaf)
+pub law_directive : {n : ℕ} (constant : Bool) → Lawful n (DirectiveRule constant) (DirectiveRule constant) (directive constant) (directive constant) (shape (mark kind.At) (mark kind.ParenOpen))
+unfolding directive
+law_directive constant =
+    law_fit (shape (mark kind.At) (mark kind.ParenOpen))
+    (law_here (λ place. law_made (directive_of place) (law_behind (law_mark kind.At refl) (law_seq law_name (law_arguments_if_any constant))))) refl
 
-pub selection_fits-Set : (fields : Fields) (room : ℕ) → selection_fits (Set fields) room ≡ fields_fit fields room
-selection_fits-Set fields room = ap (λ s. selection_fits s room) (sym (rolls-Set fields)) ∙ ap (λ f. f room) (fold-roll-Selection (ℕ → Bool) fits_step (Selection-F.Set fields))
+-- what goes on behind directives
+abbrev pub directives_go : List Sort
+directives_go = Mark kind.At ∷ Mark kind.ParenOpen ∷ []
 
-level_cases : (x : Selection-F Selection) → (o : Option Fields) × (roll-Selection x ≡ selection_of o)
-level_cases Selection-F.Leaf = (None, rolls-Leaf)
-level_cases (Selection-F.Set fields) = (Some fields, rolls-Set fields)
+pub law_directives : {n : ℕ} (constant : Bool) → Lawful n (DirectivesRule constant) (DirectivesRule constant) (directives constant) (directives constant) (loose (mark kind.At) directives_go)
+unfolding directives
+law_directives constant = law_fit (loose (mark kind.At) directives_go) (law_many (mark kind.At) (law_directive constant)) refl
 
--- a selection is a leaf or a set
-pub selection_cases : (s : Selection) → (o : Option Fields) × (s ≡ selection_of o)
-selection_cases = ind-Selection (λ s. (o : Option Fields) × (s ≡ selection_of o)) (λ x y is. level_cases x)
+-- ---- selections
 
--- ---- names
+law_renaming : {n : ℕ} → Lawful n (Opt (Behind (mark kind.Colon) NameRule)) (Opt (Behind (mark kind.Colon) NameRule)) renaming renaming (loose (mark kind.Colon) (mark kind.Colon))
+unfolding renaming
+law_renaming = law_fit (loose (mark kind.Colon) (mark kind.Colon)) (law_opt (mark kind.Colon) (law_behind (law_mark kind.Colon refl) law_name)) refl
 
-names_push : (name : List ℕ) (names : List (List ℕ)) → are_field_names names ≡ true → may_join name names ≡ true → are_field_names (names ++ name ∷ []) ≡ true
-names_push name [] good join = and_from _ true (and_from _ true (and_parts (not (is_reserved name)) true join).0 refl) refl
-names_push name (n ∷ names) good join =
-    let g = and_parts (not (is_reserved n) && list_all (λ k. not (bytes_eq n k)) names) (are_field_names names) good in
-    let own = and_parts (not (is_reserved n)) (list_all (λ k. not (bytes_eq n k)) names) g.0 in
-    let j = and_parts (not (is_reserved name)) (list_all (λ k. not (bytes_eq k name)) (n ∷ names)) join in
-    let apart = and_parts (not (bytes_eq n name)) (list_all (λ k. not (bytes_eq k name)) names) j.1 in
-    let all : list_all (λ k. not (bytes_eq n k)) (names ++ name ∷ []) ≡ true = list_all-append (λ k. not (bytes_eq n k)) names (name ∷ []) ∙ and_from _ _ own.1 (and_from _ true apart.0 refl) in
-    and_from _ _ (and_from _ _ own.0 all) (names_push name names g.1 (and_from _ _ j.0 apart.1))
+law_spread : {n : ℕ} (place : Place) → Lawful n (SpreadRule place) (SpreadRule place) (spread place) (spread place) (shape fragment_name directives_go)
+unfolding spread
+law_spread place = law_fit (shape fragment_name directives_go) (law_made (spread_of place) (law_seq law_fragment_name (law_directives false))) refl
 
-names_at : (name : List ℕ) (names more : List (List ℕ)) → are_field_names (names ++ name ∷ more) ≡ true → may_join name names ≡ true
-names_at name [] more good =
-    let g = and_parts (not (is_reserved name) && list_all (λ k. not (bytes_eq name k)) more) (are_field_names more) good in
-    and_from _ true (and_parts (not (is_reserved name)) _ g.0).0 refl
-names_at name (n ∷ names) more good =
-    let g = and_parts (not (is_reserved n) && list_all (λ k. not (bytes_eq n k)) (names ++ name ∷ more)) (are_field_names (names ++ name ∷ more)) good in
-    let own = and_parts (not (is_reserved n)) (list_all (λ k. not (bytes_eq n k)) (names ++ name ∷ more)) g.0 in
-    let later = and_parts (list_all (λ k. not (bytes_eq n k)) names) (list_all (λ k. not (bytes_eq n k)) (name ∷ more)) (sym (list_all-append (λ k. not (bytes_eq n k)) names (name ∷ more)) ∙ own.1) in
-    let rest = names_at name names more g.1 in
-    let r = and_parts (not (is_reserved name)) (list_all (λ k. not (bytes_eq k name)) names) rest in
-    and_from _ _ r.0 (and_from _ _ (and_parts (not (bytes_eq n name)) (list_all (λ k. not (bytes_eq n k)) more) later.1).0 r.1)
+law_condition : {n : ℕ} → Lawful n (Opt (Behind (word (codes "on")) NameRule)) (Opt (Behind (word (codes "on")) NameRule)) condition condition (loose (word (codes "on")) (word (codes "on")))
+unfolding condition
+law_condition = law_fit (loose (word (codes "on")) (word (codes "on"))) (law_opt (word (codes "on")) (law_behind (law_word (codes "on")) law_name)) refl
 
-not_eq : (names : List (List ℕ)) (name : List ℕ) → list_all (λ k. not (bytes_eq k name)) names ≡ true → AllByRecursion (λ k. bytes_eq k name ≡ false) names
-not_eq [] name h = tt
-not_eq (n ∷ names) name h =
-    let p = and_parts (not (bytes_eq n name)) (list_all (λ k. not (bytes_eq k name)) names) h in
-    (not-true (bytes_eq n name) p.0, not_eq names name p.1)
+abbrev pub set_shape : Shape
+set_shape = shape (mark kind.BraceOpen) []
 
--- a name that may join them isn't among them
-pub may_join_lacks : (name : List ℕ) (fields : Fields) → may_join name (names_of fields) ≡ true → Lacks fields name
-may_join_lacks name fields join = not_eq (names_of fields) name (and_parts (not (is_reserved name)) _ join).1
+-- what goes on behind a selection
+abbrev selection_goes : List Sort
+selection_goes = Mark kind.Colon ∷ Mark kind.ParenOpen ∷ Mark kind.At ∷ Mark kind.BraceOpen ∷ []
 
--- ---- fields that may stand in a set
+pub law_selection : {n : ℕ} {R V : Rule SelectionSet} {p p' : Parser SelectionSet} → Lawful n R V p p' set_shape → Lawful n (SelectionRule R) (SelectionRule V) (selection p) (selection p') (shape selection_start selection_goes)
+unfolding selection spreading inline field
+law_selection l =
+    law_fit (shape selection_start selection_goes)
+    (law_either (mark kind.Spread)
+    (law_here (λ place. law_behind (law_mark kind.Spread refl) (law_either fragment_name (law_spread place) (law_made (inline_of place) (law_seq law_condition (law_seq (law_directives false) l))))))
+    (law_made field_selection (law_made field_of (law_seq law_name (law_seq law_renaming (law_seq (law_arguments_if_any false) (law_seq (law_directives false) (law_opt (mark kind.BraceOpen) l)))))))) refl
 
-pub may_stand_push : (room : ℕ) (done : Fields) (name : List ℕ) (s : Selection) → may_stand room done ≡ true → may_join name (names_of done) ≡ true → selection_fits s room ≡ true → may_stand room (done ++ (name, s) ∷ []) ≡ true
-may_stand_push room done name s stand join fit =
-    let p = and_parts (are_field_names (names_of done)) (list_all (λ f. selection_fits f.1 room) done) stand in
-    and_from _ _
-    (ap are_field_names (map-append (λ f. f.0) done ((name, s) ∷ [])) ∙ names_push name (names_of done) p.0 join)
-    (list_all-append (λ f. selection_fits f.1 room) done ((name, s) ∷ []) ∙ and_from _ _ p.1 (and_from _ true fit refl))
+set_step : (n : ℕ) (R V : Rule SelectionSet) (p p' : Parser SelectionSet) → Lawful n R V p p' set_shape → Lawful (suc n) (SetOver R) (SetOver V) (set_over p) (set_over p') set_shape
+unfolding set_over
+set_step n R V p p' l =
+    law_fit set_shape (law_here (λ place. law_made (set_of place) (law_between_deeper kind.BraceOpen kind.BraceClose refl refl (law_more selection_start (law_selection l))))) refl
 
-pub may_stand_at : (room : ℕ) (done : Fields) (name : List ℕ) (s : Selection) (more : Fields) → may_stand room (done ++ (name, s) ∷ more) ≡ true → (may_join name (names_of done) ≡ true) × (selection_fits s room ≡ true)
-may_stand_at room done name s more stand =
-    let p = and_parts (are_field_names (names_of (done ++ (name, s) ∷ more))) (list_all (λ f. selection_fits f.1 room) (done ++ (name, s) ∷ more)) stand in
-    let all = and_parts (list_all (λ f. selection_fits f.1 room) done) (list_all (λ f. selection_fits f.1 room) ((name, s) ∷ more)) (sym (list_all-append (λ f. selection_fits f.1 room) done ((name, s) ∷ more)) ∙ p.1) in (
-      names_at name (names_of done) (names_of more) (sym (ap are_field_names (map-append (λ f. f.0) done ((name, s) ∷ more))) ∙ p.0),
-      (and_parts (selection_fits s room) _ all.1).0,
-    )
+-- `{` and a name and `}`
+some_name : Name
+some_name = record { place = origin; text = [] }
 
-same_names : {X Y : Type 0} (h : X → Y) (fields : List (List ℕ × X)) → names_of (map (λ f. (f.0, h f.1)) fields) ≡ names_of fields
-same_names h [] = refl
-same_names h (f ∷ fields) = ap (λ names. f.0 ∷ names) (same_names h fields)
+some_set : Inhabited (Depth SetOver 1)
+unfolding some_name
+some_set =
+    record {
+      text = sample kind.BraceOpen [] ∷ sample kind.Name [] ∷ sample kind.BraceClose [] ∷ [];
+      tree = set_of origin (field_selection (field_of (some_name, (None, ([], ([], None))))) ∷ []);
+      rule = record {
+        of = field_selection (field_of (some_name, (None, ([], ([], None))))) ∷ [];
+        is = refl;
+        rule = record {
+          of = (tt, field_selection (field_of (some_name, (None, ([], ([], None))))) ∷ []);
+          is = refl;
+          rule = record {
+            before = sample kind.BraceOpen [] ∷ [];
+            after = sample kind.Name [] ∷ sample kind.BraceClose [] ∷ [];
+            whole = refl;
+            first = (sample kind.BraceOpen [], refl, refl);
+            second = record {
+              of = (field_selection (field_of (some_name, (None, ([], ([], None))))) ∷ [], tt);
+              is = refl;
+              rule = record {
+                before = sample kind.Name [] ∷ [];
+                after = sample kind.BraceClose [] ∷ [];
+                whole = refl;
+                first = record {
+                  of = (field_selection (field_of (some_name, (None, ([], ([], None))))), []);
+                  is = refl;
+                  rule = record {
+                    before = sample kind.Name [] ∷ [];
+                    after = [];
+                    whole = refl;
+                    first = inr (record {
+                      of = field_of (some_name, (None, ([], ([], None))));
+                      is = refl;
+                      rule = record {
+                        of = (some_name, (None, ([], ([], None))));
+                        is = refl;
+                        rule = record {
+                          before = sample kind.Name [] ∷ [];
+                          after = [];
+                          whole = refl;
+                          first = (sample kind.Name [], refl, refl);
+                          second = record {
+                            before = [];
+                            after = [];
+                            whole = refl;
+                            first = refl;
+                            second = record {
+                              before = [];
+                              after = [];
+                              whole = refl;
+                              first = record { of = None; is = refl; rule = refl };
+                              second = record { before = []; after = []; whole = refl; first = refl; second = refl };
+                            };
+                          };
+                        };
+                      };
+                    });
+                    second = refl;
+                  };
+                };
+                second = (sample kind.BraceClose [], refl, refl);
+              };
+            };
+          };
+        };
+      };
+      at = refl;
+    }
 
--- a set fits where its fields may stand in it, and it has one
-pub fields_fit-cons : (room : ℕ) (f : List ℕ × Selection) (fields : Fields) → fields_fit (f ∷ fields) (suc room) ≡ may_stand room (f ∷ fields)
-fields_fit-cons room f fields =
-    ap₂ (λ a b. a && b) (ap are_field_names (same_names selection_fits (f ∷ fields))) (list_all-map {X = List ℕ × (ℕ → Bool)} (λ p. p.1 room) (λ f. (f.0, selection_fits f.1)) (f ∷ fields))
+set_knot : Knot SetOver set_over set_shape
+set_knot = record { sound = refl; some = some_set; step = set_step }
+
+pub law_set : {n : ℕ} → Lawful n SetRule SetRule set set set_shape
+unfolding set
+law_set {n} = law_nested SetOver set_over set_shape set_knot n
+
+pub set_again : (ts : List Token) → set ts ≡ set_over set ts
+unfolding set
+set_again ts = again SetOver set_over set_shape set_knot ts
+
+pub eats_argument : (constant : Bool) → Eats (argument constant)
+eats_argument constant = eats_lawful (law_argument constant) refl refl
+
+pub eats_directive : (constant : Bool) → Eats (directive constant)
+eats_directive constant = eats_lawful (law_directive constant) refl refl
+
+pub eats_selection : Eats (selection set)
+eats_selection = eats_lawful (law_selection law_set) refl refl

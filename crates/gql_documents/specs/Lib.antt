@@ -1,5 +1,7 @@
-pub mod Tokens
-pub mod Lexing
+pub mod Parsing
+pub mod Names
+pub mod Literals
 pub mod Selections
-pub mod Reading
-pub mod Queries
+pub mod Executables
+pub mod TypeSystems
+pub mod Documents

@@ -1,68 +1,62 @@
--- Selection sets: the tokens that spell them, and which of them are queries.
-use Rattle.std.specs.Prelude.{ℕ, zero, suc, ◌&&◌, not, Bool, true, false, IsTrue, List, [], ◌∷◌, ◌++◌, map, flat_map, take, bytes_eq, codes}
-use Rattle.std.specs.List.{list_all}
-use Rattle.text_types.specs.Names.{names_of}
-use Rattle.gql_documents.specs.Tokens.{Token, Open, Close, Name}
-use Rattle.gql_documents.specs.declared.selection.Selection.{Selection, fold-Selection}
-use Rattle.gql_documents.specs.declared.selection.Selection.TheOpen.{Selection-F}
+-- The parser of selection sets, arguments and directives.
+use Rattle.std.specs.Prelude.{Bool, true, false, List, [], ◌∷◌, ◌++◌, Option, codes}
+use Rattle.gql_tokens.specs.declared.token.Kind.TheVariants as kind
+use Rattle.gql_tokens.specs.declared.token.Place.{Place}
+use Rattle.gql_model.specs.declared.name.Name.{Name}
+use Rattle.gql_model.specs.declared.selection.Argument.{Argument}
+use Rattle.gql_model.specs.declared.selection.Directive.{Directive}
+use Rattle.gql_model.specs.declared.selection.SelectionSet.{SelectionSet}
+use Rattle.gql_model.specs.declared.selection.Selection.{Selection}
+use Rattle.gql_model.specs.declared.selection.Field.{Field}
+use Rattle.gql_model.specs.Sorts.{Sort, Mark, mark, word}
+use Rattle.gql_model.specs.Names.{any_name, fragment_name}
+use Rattle.gql_model.specs.Selections.{argument_of, directive_of, field_of, field_selection, spread_of, inline_of, set_of}
+use Rattle.gql_documents.specs.Parsing.{Parser, seq, via, opt, either, many, here, behind, between, more, perhaps, nested}
+use Rattle.gql_documents.specs.Names.{name, fragment_named}
+use Rattle.gql_documents.specs.Literals.{value}
 
--- the fields of a selection set, by name
-abbrev pub Fields : Type 0
-Fields = List (List ℕ × Selection)
+unfoldable pub argument : Bool → Parser Argument
+argument constant = via argument_of (seq name (behind (mark kind.Colon) (value constant)))
 
--- a field's name, and then the tokens of what is selected of it
-abbrev pub field_tokens : List ℕ × List Token → List Token
-field_tokens field = Name field.0 ∷ field.1
+unfoldable pub arguments : Bool → Parser (List Argument)
+arguments constant = between (mark kind.ParenOpen) (mark kind.ParenClose) (more any_name (argument constant))
 
--- one level, with the tokens of each selection inside in its place
-abbrev pub tokens_step : Selection-F (List Token) → List Token
-tokens_step Selection-F.Leaf = []
-tokens_step (Selection-F.Set fields) = Open ∷ (flat_map field_tokens fields ++ Close ∷ [])
+unfoldable pub arguments_if_any : Bool → Parser (List Argument)
+arguments_if_any constant = perhaps (mark kind.ParenOpen) (arguments constant)
 
--- the tokens of what is selected of a field: none, or a selection set (GraphQL October 2021, 2.5)
-abbrev pub selection_tokens : Selection → List Token
-selection_tokens = fold-Selection (List Token) tokens_step
+unfoldable pub directive : Bool → Parser Directive
+directive constant = here (λ place. via (directive_of place) (behind (mark kind.At) (seq name (arguments_if_any constant))))
 
--- the tokens of fields in their order
-abbrev pub fields_tokens : Fields → List Token
-fields_tokens fields = flat_map field_tokens (map (λ f. (f.0, selection_tokens f.1)) fields)
+unfoldable pub directives : Bool → Parser (List Directive)
+directives constant = many (mark kind.At) (directive constant)
 
--- the tokens that spell a selection set: '{', its fields, '}' (GraphQL October 2021, 2.4)
-abbrev pub spelled : Fields → List Token
-spelled fields = Open ∷ (fields_tokens fields ++ Close ∷ [])
+unfoldable pub renaming : Parser (Option Name)
+renaming = opt (mark kind.Colon) (behind (mark kind.Colon) name)
 
--- names that begin with two underscores are kept for introspection (GraphQL October 2021, 2.1.9)
-abbrev pub is_reserved : List ℕ → Bool
-is_reserved name = bytes_eq (take 2 name) (codes "__")
+unfoldable pub field : Parser SelectionSet → Parser Field
+field inner = via field_of (seq name (seq renaming (seq (arguments_if_any false) (seq (directives false) (opt (mark kind.BraceOpen) inner)))))
 
--- whether a name may stand behind these: it isn't reserved, and it isn't one of them
-abbrev pub may_join : List ℕ → List (List ℕ) → Bool
-may_join name names = not (is_reserved name) && list_all (λ n. not (bytes_eq n name)) names
+unfoldable pub spread : Place → Parser Selection
+spread place = via (spread_of place) (seq fragment_named (directives false))
 
--- none of the names is reserved, and no two are equal
-abbrev pub are_field_names : List (List ℕ) → Bool
-are_field_names [] = true
-are_field_names (name ∷ names) = not (is_reserved name) && list_all (λ later. not (bytes_eq name later)) names && are_field_names names
+unfoldable pub condition : Parser (Option Name)
+condition = opt (word (codes "on")) (behind (word (codes "on")) name)
 
--- a set that nests at most so many sets, where beside each name stands what its selection may nest
-abbrev pub set_fits : List (List ℕ × (ℕ → Bool)) → ℕ → Bool
-set_fits fields zero = false
-set_fits [] (suc room) = false
-set_fits (field ∷ fields) (suc room) = are_field_names (names_of (field ∷ fields)) && list_all (λ f. f.1 room) (field ∷ fields)
+unfoldable pub inline : Parser SelectionSet → Place → Parser Selection
+inline inner place = via (inline_of place) (seq condition (seq (directives false) inner))
 
--- one level, with what each selection inside may nest in its place
-abbrev pub fits_step : Selection-F (ℕ → Bool) → ℕ → Bool
-fits_step Selection-F.Leaf room = true
-fits_step (Selection-F.Set fields) room = set_fits fields room
+unfoldable pub spreading : Parser SelectionSet → Parser Selection
+spreading inner = here (λ place. behind (mark kind.Spread) (either fragment_name (spread place) (inline inner place)))
 
--- whether a selection nests at most so many sets, and each of them has fields, whose names may stand in one set
-abbrev pub selection_fits : Selection → ℕ → Bool
-selection_fits = fold-Selection (ℕ → Bool) fits_step
+-- what a selection begins with
+abbrev pub selection_start : List Sort
+selection_start = Mark kind.Spread ∷ Mark kind.Name ∷ []
 
--- the same of a selection set with these fields, which counts as one
-abbrev pub fields_fit : Fields → ℕ → Bool
-fields_fit fields = set_fits (map (λ f. (f.0, selection_fits f.1)) fields)
+unfoldable pub selection : Parser SelectionSet → Parser Selection
+selection inner = either (mark kind.Spread) (spreading inner) (via field_selection (field inner))
 
--- A query has fields in each set. Their names differ and none is reserved, and at most 64 sets nest.
-abbrev pub IsOfTheForm : Fields → Type 0
-IsOfTheForm fields = IsTrue (fields_fit fields 64)
+unfoldable pub set_over : Parser SelectionSet → Parser SelectionSet
+set_over inner = here (λ place. via (set_of place) (between (mark kind.BraceOpen) (mark kind.BraceClose) (more selection_start (selection inner))))
+
+unfoldable pub set : Parser SelectionSet
+set = nested set_over

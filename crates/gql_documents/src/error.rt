@@ -1,21 +1,34 @@
+//! Why a parser stopped.
+
+use std::alloc::AllocError;
 use text_types::Memory;
 
-/// Why a document could not be read.
-#[derive(Clone, Copy, Debug, Drop, PartialEq, Eq)]
-pub enum SyntaxError {
-    /// Out of memory.
+/// Why a production could not be read.
+#[derive(Clone, Copy, Debug, PartialEq, Eq)]
+pub enum ParseError {
     Memory,
-    /// The text is no document of the language.
-    Syntax { row: u64, column: u64 },
+    /// The cursor stands at the token at fault.
+    Syntax,
 }
 
-impl From<Memory> for SyntaxError {
+impl From<Memory> for ParseError {
     ghost use Rattle.std.specs.Prelude.{◌≡◌};
-    ghost use Rattle.gql_documents.specs.declared.error.SyntaxError.TheVariants.{Memory};
+    ghost use Rattle.gql_documents.specs.declared.error.ParseError.TheVariants.{Memory};
 
     ghost from_gives = { λ _ e. e ≡ Memory };
 
-    fn from(_: Memory) -> SyntaxError {
-        SyntaxError::Memory
+    fn from(_: Memory) -> ParseError {
+        ParseError::Memory
+    }
+}
+
+impl From<AllocError> for ParseError {
+    ghost use Rattle.std.specs.Prelude.{◌≡◌};
+    ghost use Rattle.gql_documents.specs.declared.error.ParseError.TheVariants.{Memory};
+
+    ghost from_gives = { λ _ e. e ≡ Memory };
+
+    fn from(_: AllocError) -> ParseError {
+        ParseError::Memory
     }
 }

@@ -1,23 +1,24 @@
-//! The language of documents: a query is read from its text, and written as the text that is sent
-//! upstream. It stands on the texts, lists and named pairs of `text_types`.
+//! The parser of GraphQL documents (October 2021, 2 and 3). It stands on the tokens of `gql_tokens` and
+//! on the trees and the grammar of `gql_model`.
 //!
-//! A query is one selection set of plain fields. [`parse_document`] accepts a text exactly where its
-//! tokens spell a selection set of this form, and what [`sent_text`] writes is that set's canonical
-//! text with `__typename` at the front of each inner set.
+//! [`parse_document`] gives the document that the tokens of a text derive, and refuses exactly the
+//! other texts, each with the row and the column of the first token behind the longest beginning of a
+//! document. There is one function for each production of the grammar, in its order, with the
+//! production above it: types in `names`, values in `literals`, selection sets in `selections`,
+//! operations and fragments in `executables`, type system definitions in `type_systems`. Each does what
+//! the parser of that production in `specs/` does; `proofs/` show that these parsers are those of the
+//! grammar.
 #![tactic(auto)]
 
-mod document;
+mod cursor;
+mod documents;
 mod error;
-mod lexer;
-mod parser;
-mod printer;
-mod selection;
+mod executables;
+mod literals;
+mod names;
+mod selections;
 #[cfg(test)]
 mod tests;
-mod tokens;
+mod type_systems;
 
-pub use document::Document;
-pub use error::SyntaxError;
-pub use parser::parse_document;
-pub use printer::sent_text;
-pub use selection::{Selection, SelectionSet};
+pub use documents::parse_document;

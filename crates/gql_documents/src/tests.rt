@@ -1,91 +1,59 @@
-use crate::{SyntaxError, parse_document, sent_text};
-use std::alloc::{AllocError, Global};
-use std::test::Fail;
-use text_types::Text;
+use crate::parse_document;
+use gql_tokens::{SyntaxError, nesting};
+use std::alloc::Global;
 
-fn sent(alloc: Global, text: &[u8]) -> Result<Text, SyntaxError> {
-    let document = parse_document(alloc, text)?;
-    Ok(sent_text(alloc, &document)?)
-}
-
-#[test]
-fn queries_are_sent_in_canonical_form(rt: HostRuntime) -> Result<(), Fail> {
-    for (text, want) in [
-        (b"{me}".as_slice(), "{me}"),
-        (b"{me{id name}}", "{me{__typename id name}}"),
-        (
-            b"{ me { id, name } , todo { text } }",
-            "{me{__typename id name}todo{__typename text}}",
-        ),
-        (
-            b"{a b{c}d e{f{g}h}}",
-            "{a b{__typename c}d e{__typename f{__typename g}h}}",
-        ),
-        (b",{a,,b\tc\r\nd}\n", "{a b c d}"),
-        (b"\xEF\xBB\xBF{a\xEF\xBB\xBF}", "{a}"),
-        (b"# \xFF {\r{a#b\n#}\nc}#", "{a c}"),
-        (b"{_ _a a_ A1_z9}", "{_ _a a_ A1_z9}"),
-        (b"{a{b}b{a}}", "{a{__typename b}b{__typename a}}"),
-    ] {
-        assert_eq!(rt; sent(rt.alloc(), text)?.as_str(), want, "at {text:?}");
+/// The row and column of the fault, or 0 and 0 where the text is a document.
+fn fault(alloc: Global, text: &[u8]) -> Option<(u64, u64)> {
+    if nesting(text) > 64 {
+        return None;
     }
-    Ok(())
+    match parse_document(alloc, text) {
+        Ok(_) => Some((0, 0)),
+        Err(SyntaxError::Syntax { row, column }) => Some((row, column)),
+        Err(SyntaxError::Memory) => None,
+    }
 }
 
 #[test]
-fn other_texts_are_refused(rt: HostRuntime) {
+fn each_production_is_read(rt: HostRuntime) {
     for text in [
-        b"".as_slice(),
-        b"a",
-        b"{",
-        b"{}",
-        b"{a",
-        b"{a{}}",
-        b"{a}}",
-        b"{a}{b}",
-        b"{a} b",
-        b"{{a}}",
-        b"{a{b}{c}}",
-        b"{a b a}",
-        b"{a{b b}}",
-        b"{__typename}",
-        b"{a{__b}}",
-        b"{9a}",
-        b"{a-b}",
-        b"{a:b}",
-        b"{a(b:1)}",
-        b"query{a}",
-        b"{a\xEF\xBB}",
-        b"{\xC3\xA9}",
-        b"{a#}",
+        b"{me{id name}}".as_slice(),
+        b"{query mutation on}",
+        b"query{me}",
+        b"query A($a:[Int!]=[1,2]){x:todo(id:\"\"\"  q\"\"\"){id}}",
+        b"mutation M($b:B={c:1} @e){f(g:$b)}",
+        b"subscription($a:A=-0 @c(d:{e:[true null F 9]})){f @g(h:$a) ...I ...on J{k} ...@l{m}}",
+        b"fragment a on on{...b}",
+        b"schema @a{query:Q mutation:M subscription:S}",
+        b"\"d\" scalar A @b",
+        b"type A implements &B&C @d{\"e\" f(g:[H!]!=1 @i):J @k}",
+        b"interface A implements B type C type D{e:F}",
+        b"union A=|B|C union D",
+        b"enum A{B \"c\" on @d} enum E",
+        b"input A{\"b\" c:D=[{e:1}]} input F",
+        b"directive @a(b:C) repeatable on|FIELD|QUERY",
     ] {
-        let error = parse_document(rt.alloc(), text).err();
-        assert_eq!(rt;
-            error,
-            Some(SyntaxError::Syntax { row: 1, column: 1 }),
-            "at {text:?}"
-        );
+        assert_eq!(rt; fault(rt.alloc(), text), Some((0, 0)), "at {text:?}");
     }
-}
-
-/// A query that nests so many sets.
-fn nested(alloc: Global, depth: usize) -> Result<Vec<u8>, AllocError> {
-    let mut text = Vec::new(alloc);
-    for _ in 0..depth {
-        text.extend_from_slice(b"{a")?;
-    }
-    for _ in 0..depth {
-        text.push(b'}')?;
-    }
-    Ok(text)
 }
 
 #[test]
-fn sets_nest_64_deep(rt: HostRuntime) -> Result<(), Fail> {
-    for (depth, accepted) in [(63, true), (64, true), (65, false), (5000, false)] {
-        let text = nested(rt.alloc(), depth)?;
-        let document = parse_document(rt.alloc(), &text);
-        assert_eq!(rt; document.is_ok(), accepted, "at {depth}");
+fn a_fault_is_the_first_token_behind_the_longest_beginning(rt: HostRuntime) {
+    for (text, row, column) in [
+        (b"".as_slice(), 1, 1),
+        (b"{me{id name}", 1, 13),
+        (b"{a\n", 2, 1),
+        (b"{}", 1, 2),
+        (b"{a(b:1.5)}", 1, 6),
+        (b"fragment on on User{id}", 1, 10),
+        (b"{...on{a}}", 1, 7),
+        (b"type A {me}", 1, 11),
+        (b"\"x\" {me}", 1, 5),
+        (b"query($a:A=$b){c}", 1, 12),
+        (b"{a} extend type B", 1, 5),
+        (b"enum A{true}", 1, 8),
+        (b"{a b: }", 1, 7),
+    ] {
+        assert_eq!(rt; fault(rt.alloc(), text), Some((row, column)), "at {text:?}");
     }
-    Ok(())
 }

@@ -1,0 +1,9 @@
+pub mod Sorts
+pub mod Rules
+pub mod Names
+pub mod Types
+pub mod Literals
+pub mod Selections
+pub mod Executables
+pub mod TypeSystems
+pub mod Documents

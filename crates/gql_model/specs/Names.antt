@@ -1,0 +1,32 @@
+-- Names (GraphQL October 2021, 2.1.9).
+use Rattle.std.specs.Prelude.{ℕ, Bool, true, false, not, List, [], ◌∷◌, Option, Some, None, if◌then◌else◌, codes}
+use Rattle.gql_tokens.specs.Tokens.{Token}
+use Rattle.gql_model.specs.declared.name.Name.{Name}
+use Rattle.gql_model.specs.Sorts.{Sort, Unlike, is_in, mark}
+use Rattle.gql_model.specs.Rules.{Rule, One}
+use Rattle.gql_tokens.specs.declared.token.Kind.TheVariants as kind
+
+-- the name that a token of these sorts is
+abbrev pub name_in : List Sort → Token → Option Name
+name_in sorts x = if is_in sorts x then Some (record { place = x.place; text = x.text }) else None
+
+abbrev pub any_name : List Sort
+any_name = mark kind.Name
+
+-- Name
+abbrev pub NameRule : Rule Name
+NameRule = One (name_in any_name)
+
+-- FragmentName: Name but not `on`
+abbrev pub fragment_name : List Sort
+fragment_name = Unlike (codes "on" ∷ []) ∷ []
+
+abbrev pub FragmentNameRule : Rule Name
+FragmentNameRule = One (name_in fragment_name)
+
+-- EnumValue: Name but not `true`, `false` or `null`
+abbrev pub enum_name : List Sort
+enum_name = Unlike (codes "true" ∷ codes "false" ∷ codes "null" ∷ []) ∷ []
+
+abbrev pub EnumNameRule : Rule Name
+EnumNameRule = One (name_in enum_name)

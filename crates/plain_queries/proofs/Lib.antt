@@ -1,0 +1,4 @@
+pub mod TokenLaws
+pub mod SelectionLaws
+pub mod ReadingLaws
+pub mod QueryLaws
