@@ -1,6 +1,6 @@
 -- Documents (GraphQL October 2021, 2.2), and where a text that is none is at fault.
 use Rattle.std.specs.Prelude.{◌≡◌, ◌≢◌, ℕ, Bool, true, false, List, [], ◌∷◌, ◌++◌, Option, Some, None, if◌then◌else◌}
-use Rattle.gql_tokens.specs.Tokens.{Token, tokens_of, end_at}
+use Rattle.gql_tokens.specs.Tokens.{Token, tokens_of}
 use Rattle.gql_tokens.specs.declared.token.Kind.TheVariants as kind
 use Rattle.gql_tokens.specs.declared.token.Place.{Place}
 use Rattle.gql_model.specs.declared.executable.Operation.{Operation}
@@ -58,9 +58,9 @@ DefinitionsRule = Touch DefinitionRule goes_on_with
 abbrev pub Derives : List Token → Document → Type 0
 Derives front document = (document.definitions ≢ []) × DefinitionsRule front document.definitions
 
--- the text is that of this document
+-- the text is that of this document: its tokens before the end derive it
 abbrev pub IsDocument : List ℕ → Document → Type 0
-IsDocument text document = (front : List Token) × (place : Place) × (tokens_of text ≡ front ++ end_at place ∷ []) × Derives front document
+IsDocument text document = (front : List Token) × (end : Token) × (tokens_of text ≡ front ++ end ∷ []) × (end.kind ≡ kind.End) × Derives front document
 
 -- The tokens before this one begin a document, and no document goes on with this one: the first token after the longest beginning.
 pub record IsFault (tokens : List Token) (place : Place) : Type 0 where

@@ -1,6 +1,7 @@
 -- Rules of a grammar: a rule says which tokens derive which tree.
-use Rattle.std.specs.Prelude.{◌≡◌, ℕ, zero, suc, ◌⊎◌, Bool, true, false, List, [], ◌∷◌, ◌++◌, Option, Some, None}
+use Rattle.std.specs.Prelude.{◌≡◌, ℕ, zero, suc, ◌⊎◌, Bool, true, false, List, [], ◌∷◌, ◌++◌, Option, Some, None, is_some}
 use Rattle.gql_tokens.specs.Tokens.{Token}
+use Rattle.gql_tokens.specs.Cursors.{first_place}
 use Rattle.gql_tokens.specs.declared.token.Place.{Place}
 use Rattle.gql_model.specs.Sorts.{Sort, is_in, starts}
 
@@ -56,8 +57,7 @@ Unless flag R front a = (flag ≡ false) × R front a
 
 -- where the first token stands
 abbrev pub place_of : List Token → Place
-place_of [] = record { row = 0; column = 0 }
-place_of (x ∷ rest) = x.place
+place_of = first_place
 
 -- a part that knows where its first token stands
 abbrev pub Here : {A : Type 0} → (Place → Rule A) → Rule A
@@ -79,7 +79,7 @@ Nested F front a = (n : ℕ) × Depth F n front a
 
 -- ---- forms that many productions share
 
-abbrev pub last : {A : Type 0} → Unit {0} × A → A
+abbrev pub last : {A B : Type 0} → A × B → B
 last p = p.1
 
 -- what stands behind a token
@@ -92,6 +92,10 @@ former p = p.0
 -- what stands before a token
 abbrev pub Before : {A : Type 0} → List Sort → Rule A → Rule A
 Before sorts R = Made former (Seq R (The sorts))
+
+-- whether a token of these sorts stands there
+abbrev pub Whether : List Sort → Rule Bool
+Whether sorts = Made is_some (Opt (The sorts))
 
 -- what stands between two tokens
 abbrev pub Between : {A : Type 0} → List Sort → List Sort → Rule A → Rule A

@@ -1,5 +1,5 @@
 -- Type system definitions (GraphQL October 2021, 3.2 to 3.13).
-use Rattle.std.specs.Prelude.{ℕ, Bool, true, false, List, [], ◌∷◌, Option, Some, None, is_some, codes}
+use Rattle.std.specs.Prelude.{ℕ, Bool, true, false, List, [], ◌∷◌, Option, Some, None, codes}
 use Rattle.gql_tokens.specs.Tokens.{Token, string_value_of}
 use Rattle.gql_tokens.specs.declared.token.Kind.TheVariants as kind
 use Rattle.gql_tokens.specs.declared.token.Kind.{Kind}
@@ -24,7 +24,7 @@ use Rattle.gql_model.specs.declared.type_system.EnumValueDefinition.{EnumValueDe
 use Rattle.gql_model.specs.declared.type_system.InputObjectDefinition.{InputObjectDefinition}
 use Rattle.gql_model.specs.declared.type_system.DirectiveDefinition.{DirectiveDefinition}
 use Rattle.gql_model.specs.Sorts.{Sort, mark, word}
-use Rattle.gql_model.specs.Rules.{Rule, One, The, Seq, Opt, Many, Made, Either, Here, Behind, Between, More, Perhaps, cons, last}
+use Rattle.gql_model.specs.Rules.{Rule, One, Seq, Opt, Many, Made, Whether, Either, Here, Behind, Between, More, Perhaps, cons, last}
 use Rattle.gql_model.specs.Names.{NameRule, EnumNameRule}
 use Rattle.gql_model.specs.Types.{TypeRule}
 use Rattle.gql_model.specs.Selections.{DirectivesRule}
@@ -48,7 +48,7 @@ Braced R = Between (mark kind.BraceOpen) (mark kind.BraceClose) (More R)
 
 -- names with a mark between each two, where the mark may stand before the first too
 abbrev pub ListedBy : Kind → Rule (List Name)
-ListedBy k = Made last (Seq (Made (λ o. tt) (Opt (The (mark k)))) (Made cons (Seq NameRule (Many (Behind (mark k) NameRule)))))
+ListedBy k = Made last (Seq (Whether (mark k)) (Made cons (Seq NameRule (Many (Behind (mark k) NameRule)))))
 
 -- ---- schemas and scalars
 
@@ -148,13 +148,13 @@ input_object_of p = form.Input (record { name = p.0; directives = p.1.0; fields 
 abbrev pub InputObjectRule : Rule TypeSystemForm
 InputObjectRule = Made input_object_of (Behind (word (codes "input")) (Seq NameRule (Seq (DirectivesRule true) (Perhaps (Braced InputRule)))))
 
-abbrev pub directive_form : Name × (List InputDefinition × (Option (Unit {0}) × List Name)) → TypeSystemForm
-directive_form p = form.Directive (record { name = p.0; arguments = p.1.0; repeatable = is_some p.1.1.0; locations = p.1.1.1 })
+abbrev pub directive_form : Name × (List InputDefinition × (Bool × List Name)) → TypeSystemForm
+directive_form p = form.Directive (record { name = p.0; arguments = p.1.0; repeatable = p.1.1.0; locations = p.1.1.1 })
 
 -- Directive = "directive" "@" Name Inputs? "repeatable"? "on" "|"? Name ("|" Name)*
 abbrev pub DirectiveDefinitionRule : Rule TypeSystemForm
 DirectiveDefinitionRule =
-    Made directive_form (Behind (word (codes "directive")) (Behind (mark kind.At) (Seq NameRule (Seq (Perhaps InputsRule) (Seq (Opt (The (word (codes "repeatable")))) (Behind (word (codes "on")) (ListedBy kind.Pipe)))))))
+    Made directive_form (Behind (word (codes "directive")) (Behind (mark kind.At) (Seq NameRule (Seq (Perhaps InputsRule) (Seq (Whether (word (codes "repeatable"))) (Behind (word (codes "on")) (ListedBy kind.Pipe)))))))
 
 -- ---- definitions
 

@@ -1,6 +1,6 @@
 -- Block strings (GraphQL October 2021, 2.9.4).
-use Rattle.std.specs.Prelude.{◌≡◌, ℕ, ◌+◌, ◌==◌, ◌||◌, ◌&&◌, min, Bool, true, false, not, if◌then◌else◌, Option, Some, None, List, [], ◌∷◌, ◌++◌, length, take, drop, map, reverse, filter, codes}
-use Rattle.std.specs.List.{list_all, prefix_len, join_with_byte}
+use Rattle.std.specs.Prelude.{◌≡◌, ℕ, ◌+◌, ◌-◌, ◌==◌, ◌||◌, ◌&&◌, min, Bool, true, false, not, if◌then◌else◌, Option, Some, None, List, [], ◌∷◌, ◌++◌, length, take, drop, map, filter}
+use Rattle.std.specs.List.{list_all, prefix_len, suffix_len, join_with_byte}
 use Rattle.gql_tokens.specs.Characters.{begins_with, source_character, is_white_space, ends_line}
 use Rattle.gql_tokens.specs.Runs.{run}
 
@@ -40,14 +40,16 @@ is_blank line = list_all is_white_space line
 abbrev pub indent_of : List ℕ → ℕ
 indent_of line = prefix_len is_white_space line
 
+-- the lesser of two numbers, where there may be none
+abbrev pub lesser : Option ℕ → Option ℕ → Option ℕ
+lesser None other = other
+lesser (Some n) None = Some n
+lesser (Some n) (Some m) = Some (min n m)
+
 -- the least of these numbers, if there are any
 abbrev pub least : List ℕ → Option ℕ
 least [] = None
-least (n ∷ ns) = least_with n (least ns)
-  where
-    least_with : ℕ → Option ℕ → Option ℕ
-    least_with n None = Some n
-    least_with n (Some m) = Some (min n m)
+least (n ∷ ns) = lesser (Some n) (least ns)
 
 -- the common indent: the least of the lines that aren't blank
 abbrev pub common_indent : List (List ℕ) → Option ℕ
@@ -63,14 +65,10 @@ abbrev pub dedented : List (List ℕ) → List (List ℕ)
 dedented [] = []
 dedented (first ∷ others) = first ∷ without_indent (common_indent others) others
 
--- the lines from the first that isn't blank on
-abbrev pub without_leading_blanks : List (List ℕ) → List (List ℕ)
-without_leading_blanks [] = []
-without_leading_blanks (line ∷ lines) = if is_blank line then without_leading_blanks lines else line ∷ lines
-
--- the lines without blank ones at either end
+-- the lines from the first that isn't blank to the last that isn't
 abbrev pub without_blank_ends : List (List ℕ) → List (List ℕ)
-without_blank_ends lines = reverse (without_leading_blanks (reverse (without_leading_blanks lines)))
+without_blank_ends lines =
+    let kept = drop (prefix_len is_blank lines) lines in take (length kept - suffix_len is_blank kept) kept
 
 -- BlockStringValue: what the characters between the marks mean together
 abbrev pub block_value_of : List ℕ → List ℕ

@@ -15,16 +15,14 @@ is_source_byte b = b == 9 || b == 10 || b == 13 || nat_le 32 b
 abbrev pub encoded_len : ℕ → ℕ
 encoded_len b = if nat_lt b 128 then 1 else (if nat_lt b 224 then 2 else (if nat_lt b 240 then 3 else 4))
 
--- the text begins with this many bytes, and they are UTF-8
-abbrev pub begins_with_utf8 : ℕ → List ℕ → Bool
-begins_with_utf8 n text = nat_le n (length text) && is_utf8 (take n text)
+-- the first bytes of a text, so many, and their number, if they are UTF-8
+abbrev pub utf8_front : ℕ → List ℕ → Option (List ℕ × ℕ)
+utf8_front n text = if nat_le n (length text) && is_utf8 (take n text) then Some (take n text, n) else None
 
 -- SourceCharacter: the character at the front, itself and its length (2.1.1)
 abbrev pub source_character : List ℕ → Option (List ℕ × ℕ)
 source_character [] = None
-source_character (b ∷ rest) =
-    if is_source_byte b && begins_with_utf8 (encoded_len b) (b ∷ rest)
-    then Some (take (encoded_len b) (b ∷ rest), encoded_len b) else None
+source_character (b ∷ rest) = if is_source_byte b then utf8_front (encoded_len b) (b ∷ rest) else None
 
 -- WhiteSpace: tab and space (2.1.2)
 abbrev pub is_white_space : ℕ → Bool

@@ -6,7 +6,7 @@ use Rattle.gql_tokens.specs.declared.token.Kind.TheVariants.{Bang, Dollar, Amper
 use Rattle.gql_tokens.specs.Characters.{begins_with, source_character, is_white_space, is_line_end, line_end_len}
 use Rattle.gql_tokens.specs.Runs.{run}
 use Rattle.gql_tokens.specs.Names.{is_name_start, is_name_continue, is_digit}
-use Rattle.gql_tokens.specs.Numbers.{is_integer, number_len, continues_number}
+use Rattle.gql_tokens.specs.Numbers.{integer_len}
 use Rattle.gql_tokens.specs.Strings.{string_len}
 use Rattle.gql_tokens.specs.Blocks.{block_mark, block_len}
 
@@ -55,9 +55,7 @@ name_token text = Some (Name, prefix_len is_name_continue text)
 
 -- an integer at the front, where nothing stands behind it that continues a number (2.9.1)
 abbrev pub integer_token : List ℕ → Option (Kind × ℕ)
-integer_token text =
-    let n = number_len text in
-    if is_integer (take n text) && not (continues_number (drop n text)) then Some (Integer, n) else None
+integer_token text = option_map (of_kind Integer) (integer_len text)
 
 -- a string at the front; `"""` always begins a block string (2.9.4)
 abbrev pub string_token : List ℕ → Option (Kind × ℕ)

@@ -1,10 +1,13 @@
 pub mod Blocks
 pub mod Characters
+pub mod Cursors
+pub mod Heads
 pub mod Lexemes
 pub mod Names
 pub mod Nesting
 pub mod Numbers
 pub mod Places
+pub mod Readings
 pub mod Runs
 pub mod Strings
 pub mod Tokens

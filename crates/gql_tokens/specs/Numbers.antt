@@ -1,5 +1,5 @@
 -- Integers (GraphQL October 2021, 2.9.1). Floats are no part of this language.
-use Rattle.std.specs.Prelude.{◌≡◌, ℕ, ℤ, pos, neg_ℤ, ◌+◌, ◌-◌, ◌*◌, ◌^◌, ◌==◌, ◌||◌, ◌&&◌, nat_lt, nat_le, Bool, true, false, not, if◌then◌else◌, List, [], ◌∷◌, length, take, drop}
+use Rattle.std.specs.Prelude.{◌≡◌, ℕ, ℤ, pos, neg_ℤ, ◌+◌, ◌-◌, ◌*◌, ◌^◌, ◌==◌, ◌||◌, ◌&&◌, nat_lt, nat_le, Bool, true, false, not, if◌then◌else◌, Option, Some, None, List, [], ◌∷◌, length, take, drop}
 use Rattle.std.specs.List.{list_all, prefix_len}
 use Rattle.gql_tokens.specs.Characters.{begins_with}
 use Rattle.gql_tokens.specs.Names.{is_name_start, is_digit}
@@ -47,7 +47,16 @@ abbrev pub continues_number : List ℕ → Bool
 continues_number [] = false
 continues_number (b ∷ rest) = is_digit b || b == 46 || is_name_start b
 
+-- how long the integer at the front is, where nothing stands behind it that continues it
+abbrev pub integer_len : List ℕ → Option ℕ
+integer_len text =
+    let n = number_len text in
+    if is_integer (take n text) && not (continues_number (drop n text)) then Some n else None
+
+-- a number with its sign
+abbrev pub with_sign : Bool → ℕ → ℤ
+with_sign negative n = if negative then neg_ℤ (pos n) else pos n
+
 -- the number that the text of an integer spells
 abbrev pub integer_value_of : List ℕ → ℤ
-integer_value_of text =
-    if has_sign text then neg_ℤ (pos (digits_value (unsigned_part text))) else pos (digits_value (unsigned_part text))
+integer_value_of text = with_sign (has_sign text) (digits_value (unsigned_part text))

@@ -1,5 +1,5 @@
 -- Strings (GraphQL October 2021, 2.9.4).
-use Rattle.std.specs.Prelude.{◌≡◌, ℕ, ◌+◌, ◌-◌, ◌*◌, ◌==◌, ◌||◌, ◌&&◌, nat_lt, nat_le, Bool, true, false, if◌then◌else◌, Option, Some, None, List, [], ◌∷◌, length, take, drop, encode_utf8, codes, option_and_then}
+use Rattle.std.specs.Prelude.{◌≡◌, ℕ, ◌+◌, ◌-◌, ◌*◌, ◌==◌, ◌||◌, ◌&&◌, nat_lt, nat_le, Bool, true, false, if◌then◌else◌, Option, Some, None, List, [], ◌∷◌, length, take, drop, encode_utf8, codes, option_and_then, slice_index}
 use Rattle.gql_tokens.specs.Characters.{begins_with, source_character, is_line_end}
 use Rattle.gql_tokens.specs.Runs.{run}
 
@@ -10,15 +10,17 @@ hex_digit b =
     if nat_le 97 b && nat_le b 102 then Some (b - 87) else (
     if nat_le 65 b && nat_le b 70 then Some (b - 55) else None))
 
--- the number that hexadecimal digits spell, read on from a number
-abbrev pub hex_after : ℕ → List ℕ → Option ℕ
-hex_after n [] = Some n
-hex_after n (b ∷ bs) = option_and_then (λ d. hex_after (n * 16 + d) bs) (hex_digit b)
+-- the number that four hexadecimal digits spell
+abbrev pub four_digits : Option ℕ → Option ℕ → Option ℕ → Option ℕ → Option ℕ
+four_digits (Some a) (Some b) (Some c) (Some d) = Some (a * 4096 + b * 256 + c * 16 + d)
+four_digits _ _ _ _ = None
 
 -- EscapedUnicode at the front: the code unit that `\u` and four hexadecimal digits spell
 abbrev pub code_unit : List ℕ → Option ℕ
 code_unit text =
-    if begins_with (codes "\\u") text && nat_le 6 (length text) then hex_after 0 (take 4 (drop 2 text)) else None
+    if begins_with (codes "\\u") text && nat_le 6 (length text)
+    then four_digits (hex_digit (slice_index text 2)) (hex_digit (slice_index text 3)) (hex_digit (slice_index text 4)) (hex_digit (slice_index text 5))
+    else None
 
 -- the first and the second code unit of a surrogate pair (Unicode, 3.8)
 abbrev pub is_leading_surrogate : ℕ → Bool

@@ -1,5 +1,5 @@
 -- The tokens of a text (GraphQL October 2021, 2.1.6).
-use Rattle.std.specs.Prelude.{◌≡◌, ℕ, ℤ, zero, suc, ◌+◌, ◌-◌, ◌==◌, if◌then◌else◌, Option, Some, None, List, [], ◌∷◌, ◌++◌, length, take, drop, map, slice_range, ⊤}
+use Rattle.std.specs.Prelude.{◌≡◌, ℕ, ℤ, zero, suc, ◌+◌, ◌-◌, ◌<◌, ◌≤◌, ◌==◌, if◌then◌else◌, Option, Some, None, List, [], ◌∷◌, ◌++◌, length, take, drop, map, slice_range, ⊤}
 use Rattle.gql_tokens.specs.declared.token.Place.{Place}
 use Rattle.gql_tokens.specs.declared.token.Kind.{Kind}
 use Rattle.gql_tokens.specs.declared.token.Kind.TheVariants.{Fault, End}
@@ -65,6 +65,11 @@ integer_value_of text = numbers.integer_value_of text
 -- the token that a span is in its text
 abbrev pub seen : List ℕ → Span → Token
 seen text span = record { kind = span.kind; text = slice_range text span.start span.end; place = span.place }
+
+-- the spans follow one another from a byte on, each holds a byte at least, and they end before a byte
+abbrev pub AreInOrder : ℕ → ℕ → List Span → Type 0
+AreInOrder first last [] = first ≤ last
+AreInOrder first last (span ∷ spans) = (first ≤ span.start) × ((span.start < span.end) × AreInOrder span.end last spans)
 
 -- these spans are all tokens of the text, and it has no lexical fault
 abbrev pub AreTokens : List ℕ → List Span → Type 0

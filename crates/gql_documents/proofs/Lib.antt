@@ -1,0 +1,16 @@
+pub mod SortLaws
+pub mod StartLaws
+pub mod Laws
+pub mod Manys
+pub mod Turns
+pub mod Parts
+pub mod Nestings
+pub mod Forms
+pub mod ValueLaws
+pub mod SelectionLaws
+pub mod ExecutableLaws
+pub mod TypeSystemLaws
+pub mod EndLaws
+pub mod Ends
+pub mod Touching
+pub mod DocumentLaws

@@ -1,0 +1,14 @@
+use Rattle.std.proofs.Common.{◌≡◌, ◌≤◌, [], ◌∷◌, length}
+use Rattle.gql_documents.specs.Parsing.{onto, many}
+use Rattle.gql_documents.specs.Selections as spec
+use Rattle.gql_model.specs.Names.{any_name}
+use Rattle.gql_documents.proofs.selections.more_arguments.Given as goal
+
+abbrev pub invariant-turn : goal.invariant-turn
+invariant-turn l = record {
+  reads : onto l.all (many any_name (spec.argument l.fn.constant) l.tokens) ≡ onto l.fn.all (many any_name (spec.argument l.fn.constant) l.fn.tokens);
+  shorter : length l.tokens ≤ length l.fn.tokens;
+}
+
+abbrev pub decreases-turn : goal.decreases-turn
+decreases-turn l = length l.tokens

@@ -1,0 +1,22 @@
+//! The parser of GraphQL documents (October 2021, 2 and 3). It stands on the tokens of `gql_tokens` and
+//! on the trees and the grammar of `gql_model`.
+//!
+//! [`parse_document`] gives the document that the tokens of a text derive, and refuses exactly the
+//! other texts, each with the row and the column of the first token behind the longest beginning of a
+//! document. There is one function for each production of the grammar, in its order, with the
+//! production above it: types in `names`, values in `literals`, selection sets in `selections`,
+//! operations and fragments in `executables`, type system definitions in `type_systems`. Each does what
+//! the parser of that production in `specs/` does; `proofs/` show that these parsers are those of the
+//! grammar.
+#![tactic(auto)]
+
+mod cursor;
+mod documents;
+mod error;
+mod executables;
+mod literals;
+mod names;
+mod selections;
+mod type_systems;
+
+pub use documents::parse_document;

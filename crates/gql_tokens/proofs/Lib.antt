@@ -1,0 +1,15 @@
+pub mod BlockLaws
+pub mod BlockTextLaws
+pub mod CharacterLaws
+pub mod Choices
+pub mod FormLaws
+pub mod HeadLaws
+pub mod LexemeLaws
+pub mod NameLaws
+pub mod NestingLaws
+pub mod NumberLaws
+pub mod PlaceLaws
+pub mod RunLaws
+pub mod SpanLaws
+pub mod StringLaws
+pub mod TokenLaws

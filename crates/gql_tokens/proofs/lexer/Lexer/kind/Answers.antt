@@ -1,0 +1,7 @@
+use Rattle.std.proofs.Common.{ap, sym, ◌∙◌}
+use Rattle.gql_tokens.specs.Cursors.{first_kind}
+use Rattle.gql_tokens.proofs.HeadLaws.{head_token}
+use Rattle.gql_tokens.proofs.lexer.Lexer.kind.Goals as goal
+
+pub returns : goal.returns
+returns c = sym (ap first_kind (sym c.self.view_is ∙ head_token c.self.inside.head c.self.invariant))

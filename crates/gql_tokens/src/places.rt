@@ -1,0 +1,55 @@
+//! Rows and columns.
+
+ghost use Rattle.std.specs.Prelude.{◌≡◌, ◌≤◌, ◌<◌, ◌+◌, ◌-◌, ◌^◌, length, drop};
+ghost use Rattle.gql_tokens.specs.Places.{first_place, place_behind, place_after};
+ghost use Rattle.gql_tokens.specs.Readings.{HasRoom};
+
+use crate::characters::ends_line;
+use crate::token::Place;
+
+/// Where a text begins.
+pub(crate) fn first() -> Place
+    ensures { result ≡ first_place }
+{
+    Place { row: 1, column: 1 }
+}
+
+/// The place behind a byte that stands at a place before this rest.
+fn behind(place: Place, byte: u8, rest: &[u8]) -> Place
+    requires row { place.row < 2 ^ 64 - 1 }
+    requires column { place.column < 2 ^ 64 - 1 }
+    ensures { result ≡ place_behind place byte rest.now }
+{
+    if ends_line(byte, rest) {
+        Place {
+            row: place.row + 1,
+            column: 1,
+        }
+    } else if matches!(byte, 128..=191) {
+        place
+    } else {
+        Place {
+            row: place.row,
+            column: place.column + 1,
+        }
+    }
+}
+
+/// The place behind the first `len` bytes of a text that stands at a place.
+pub(crate) fn after(len: usize, start: Place, text: &[u8]) -> Place
+    requires within { len ≤ length text.now }
+    requires room { HasRoom start text.now }
+    ensures value { result ≡ place_after len start text.now }
+    ensures room { HasRoom result (drop len text.now) }
+{
+    let mut place = start;
+    let mut rest = text;
+    'bytes: for _ in 0..len {
+        let Some((byte, more)) = rest.split_first() else {
+            unreachable!()
+        };
+        place = behind(place, *byte, more);
+        rest = more;
+    }
+    place
+}
