@@ -1,5 +1,5 @@
 -- Lines of block strings.
-use Rattle.std.proofs.Common.{◌≡◌, ◌≤◌, ◌<◌, ℕ, zero, suc, ◌+◌, ◌-◌, ◌||◌, ◌&&◌, ◌==◌, min, Bool, true, false, not, cond, List, [], ◌∷◌, ◌++◌, length, take, drop, map, filter, Option, Some, None, unwrap_or, refl, sym, ap, subst, ◌∙◌, arith, append_assoc, append-nil, codes}
+use Rattle.std.proofs.Common.{◌≡◌, ℕ, suc, ◌+◌, ◌-◌, ◌==◌, Bool, true, false, not, cond, List, [], ◌∷◌, ◌++◌, length, take, drop, map, Option, Some, None, unwrap_or, refl, sym, ap, subst, ◌∙◌, arith, append-nil}
 use Rattle.std.specs.Prelude.{flat_map, reverse}
 use mathlib.Core.List.{reverse_aux}
 use Rattle.std.specs.List.{prefix_len, suffix_len, join_with_byte}
@@ -7,8 +7,8 @@ use Rattle.std.specs.Borrow.{Bor}
 use Rattle.std.proofs.lemmas.List.{drop-map, take-map, length-map}
 use Rattle.std.proofs.lemmas.Bool.{eqb-true}
 use Rattle.gql_tokens.proofs.NameLaws.{both}
-use Rattle.gql_tokens.specs.Characters.{begins_with, is_line_end, ends_line, line_end_len}
-use Rattle.gql_tokens.specs.Blocks.{in_first_line, lines_of, is_blank, indent_of, lesser, least, common_indent, without_indent, dedented, without_blank_ends, block_value_of}
+use Rattle.gql_tokens.specs.Characters.{begins_with, is_line_end, line_end_len}
+use Rattle.gql_tokens.specs.Blocks.{lines_of, is_blank, lesser, common_indent, without_indent, dedented, without_blank_ends, block_value_of}
 use Rattle.gql_tokens.specs.Readings.{texts, lines_left}
 
 -- what stands behind the first line: nothing, or a line end and further lines

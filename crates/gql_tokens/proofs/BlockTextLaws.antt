@@ -1,12 +1,12 @@
 -- The value of a block string is text where its characters are.
-use Rattle.std.proofs.Common.{◌≡◌, ◌≤◌, ◌<◌, ℕ, zero, suc, ◌+◌, ◌-◌, ◌||◌, ◌&&◌, ◌==◌, min, Bool, true, false, not, cond, List, [], ◌∷◌, ◌++◌, length, take, drop, get_or, map, Option, Some, None, unwrap_or, refl, sym, ap, subst, ◌∙◌, arith, append_assoc, append-nil, length-append, IsUtf8}
-use Rattle.std.specs.List.{prefix_len, suffix_len, list_all, join_with_byte}
+use Rattle.std.proofs.Common.{◌≡◌, ◌≤◌, ◌<◌, ℕ, zero, suc, ◌+◌, ◌==◌, Bool, true, false, cond, List, [], ◌∷◌, ◌++◌, length, take, drop, get_or, map, Option, Some, None, unwrap_or, refl, sym, subst, arith, append_assoc, append-nil, length-append, IsUtf8}
+use Rattle.std.specs.List.{prefix_len, list_all, join_with_byte}
 use Rattle.std.proofs.Math.Seq.{take-append_seam, drop-append-add}
 use Rattle.std.proofs.lemmas.Bool.{eqb-true}
 use Rattle.std.proofs.lemmas.Bool.Decides.{nat_tests}
 use Rattle.std.proofs.lemmas.Str.{IsUtf8-nil, IsUtf8-append, IsUtf8-take, IsUtf8-drop, IsUtf8-from_ascii, IsCharBoundary-before_ascii, IsCharBoundary-after_ascii}
-use Rattle.gql_tokens.specs.Characters.{begins_with, is_white_space, ends_line}
-use Rattle.gql_tokens.specs.Blocks.{in_first_line, lines_of, is_blank, indent_of, lesser, common_indent, dedented, without_indent, without_blank_ends, block_value_of}
+use Rattle.gql_tokens.specs.Characters.{begins_with, is_white_space}
+use Rattle.gql_tokens.specs.Blocks.{in_first_line, lines_of, is_blank, indent_of, lesser, common_indent, dedented, without_blank_ends, block_value_of}
 use Rattle.gql_tokens.proofs.NameLaws.{both}
 use Rattle.gql_tokens.proofs.BlockLaws.{without_indent-drop}
 

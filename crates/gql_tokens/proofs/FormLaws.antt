@@ -1,12 +1,12 @@
 -- A token's text is of its kind's form.
-use Rattle.std.proofs.Common.{◌≡◌, ◌&&◌, ◌||◌, ◌==◌, ℕ, zero, suc, ◌+◌, Bool, true, false, cond, not, List, [], ◌∷◌, length, take, drop, Option, Some, None, unwrap_or, refl, sym, ap, subst, ◌∙◌, arith, codes}
+use Rattle.std.proofs.Common.{◌≡◌, ◌&&◌, ◌||◌, ◌==◌, ℕ, suc, ◌+◌, Bool, true, false, cond, not, List, [], ◌∷◌, take, drop, Option, Some, None, unwrap_or, refl, subst, ◌∙◌, arith, codes}
 use Rattle.std.specs.Option.{option_map}
 use Rattle.std.specs.List.{prefix_len, list_all}
 use Rattle.gql_tokens.specs.declared.token.Kind.{Kind}
 use Rattle.gql_tokens.specs.declared.token.Kind.TheVariants.{Bang, Dollar, Ampersand, ParenOpen, ParenClose, Spread, Colon, Equals, At, BracketOpen, BracketClose, BraceOpen, Pipe, BraceClose, Name, Integer, String, Fault, End}
 use Rattle.gql_tokens.specs.Characters.{begins_with}
 use Rattle.gql_tokens.specs.Names.{is_name_start, is_name_continue, is_digit, IsName}
-use Rattle.gql_tokens.specs.Numbers.{is_integer, number_len, continues_number, integer_len, IsInteger}
+use Rattle.gql_tokens.specs.Numbers.{is_integer, number_len, continues_number, IsInteger}
 use Rattle.gql_tokens.specs.Lexemes.{punctuator, of_kind, name_token, integer_token, string_token, punctuator_token, token_at}
 use Rattle.gql_tokens.specs.Heads.{head_of}
 use Rattle.gql_tokens.proofs.Choices.{choice}

@@ -1,11 +1,11 @@
 -- A head is the first of its tokens.
-use Rattle.std.proofs.Common.{◌≡◌, ◌<◌, ℕ, ◌-◌, length, arith, Bool, true, false, List, [], ◌∷◌, Option, Some, None, unwrap_or, refl, ap, subst, ◌∙◌}
+use Rattle.std.proofs.Common.{◌≡◌, ◌<◌, ◌≤◌, ℕ, ◌-◌, length, arith, Bool, true, false, List, [], ◌∷◌, Option, Some, None, unwrap_or, refl, ap, subst, ◌∙◌}
 use Rattle.gql_tokens.specs.declared.token.Kind.{Kind}
 use Rattle.gql_tokens.specs.declared.token.Kind.TheVariants.{Fault, End}
 use Rattle.gql_tokens.specs.declared.token.Place.{Place}
 use Rattle.gql_tokens.specs.Places.{first_place, place_after, place_in}
 use Rattle.gql_tokens.specs.Lexemes.{token_at}
-use Rattle.gql_tokens.specs.Tokens.{Token, end_at, fault_at}
+use Rattle.gql_tokens.specs.Tokens.{end_at, fault_at}
 use Rattle.gql_tokens.specs.declared.heads.Head.{Head}
 use Rattle.gql_tokens.specs.Heads.{IsHead, IsBehind, is_last, head_of, tokens_at, token_of}
 use Rattle.gql_tokens.proofs.LexemeLaws.{token_lies}
@@ -71,3 +71,11 @@ ended text head h k b =
 
 pub faulty : (head : Head) → IsHead head → is_last head.kind ≡ true → (head.kind ≡ End → ⊥) → tokens_at head ≡ fault_at head.place ∷ []
 faulty head h l e = last_token head h l ∙ ap (λ (kind : Kind). record { kind = kind; text = []; place = head.place } ∷ []) (fault_or_end head.kind l e)
+
+pub head_within : (text : List ℕ) → (head_of text).1 ≤ length text
+head_within [] = omega arith
+head_within (b ∷ rest) = here (token_at (b ∷ rest)) refl
+  where
+    here : (o : Option (Kind × ℕ)) → token_at (b ∷ rest) ≡ o → (unwrap_or o (Fault, 0)).1 ≤ length (b ∷ rest)
+    here None e = omega arith
+    here (Some t) e = (token_lies (b ∷ rest) t e).within

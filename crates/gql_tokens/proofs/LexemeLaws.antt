@@ -1,15 +1,14 @@
 -- Each token takes a byte at least, and none behind its text; and it is neither a fault nor an end.
-use Rattle.std.proofs.Common.{◌≡◌, ◌≤◌, ◌<◌, ◌&&◌, ◌||◌, ◌==◌, ℕ, zero, suc, ◌+◌, ◌-◌, Bool, true, false, cond, not, nat_eq, nat_lt, nat_le, List, [], ◌∷◌, length, take, drop, Option, Some, None, refl, sym, ap, subst, ◌∙◌, arith, length-drop, codes}
+use Rattle.std.proofs.Common.{◌≡◌, ◌≤◌, ◌<◌, ◌&&◌, ◌||◌, ◌==◌, ℕ, zero, suc, ◌+◌, ◌-◌, Bool, true, false, cond, not, List, [], ◌∷◌, length, take, drop, Option, Some, None, refl, subst, arith, length-drop, codes}
 use Rattle.std.specs.Option.{option_map}
-use Rattle.std.specs.List.{prefix_len, starts_with}
+use Rattle.std.specs.List.{prefix_len}
 use Rattle.std.proofs.lemmas.List.Sums.{prefix_len-le-length}
-use Rattle.std.proofs.lemmas.Bool.Decides.{nat_tests}
 use Rattle.gql_tokens.specs.declared.token.Kind.{Kind}
 use Rattle.gql_tokens.specs.declared.token.Kind.TheVariants.{Bang, Dollar, Ampersand, ParenOpen, ParenClose, Spread, Colon, Equals, At, BracketOpen, BracketClose, BraceOpen, Pipe, BraceClose, Name, Integer, String}
 use Rattle.gql_tokens.specs.Characters.{begins_with}
 use Rattle.gql_tokens.specs.Runs.{Rule, run, run_on, run_behind}
 use Rattle.gql_tokens.specs.Names.{is_name_start, is_name_continue, is_digit}
-use Rattle.gql_tokens.specs.Numbers.{has_sign, unsigned_part, is_integer, number_len, continues_number, integer_len}
+use Rattle.gql_tokens.specs.Numbers.{has_sign, is_integer, number_len, continues_number, integer_len}
 use Rattle.gql_tokens.specs.Strings.{string_character, string_len}
 use Rattle.gql_tokens.specs.Blocks.{block_mark, block_character, block_len}
 use Rattle.gql_tokens.specs.Lexemes.{punctuator, of_kind, name_token, integer_token, string_token, punctuator_token, token_at}

@@ -5,6 +5,7 @@ pub mod Choices
 pub mod FormLaws
 pub mod HeadLaws
 pub mod LexemeLaws
+pub mod MakingLaws
 pub mod NameLaws
 pub mod NestingLaws
 pub mod NumberLaws

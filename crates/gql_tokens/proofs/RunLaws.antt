@@ -1,6 +1,6 @@
 -- A run goes on behind each character.
-use Rattle.std.proofs.Common.{◌≡◌, ◌≤◌, ◌<◌, ℕ, zero, suc, ◌+◌, ◌-◌, List, [], ◌∷◌, ◌++◌, length, drop, Option, Some, None, refl, sym, ap, ◌∙◌, arith}
-use Rattle.gql_tokens.specs.Runs.{Rule, run, run_behind, run_on, meaning}
+use Rattle.std.proofs.Common.{◌≡◌, ◌≤◌, ◌<◌, ℕ, zero, suc, ◌+◌, ◌-◌, List, [], ◌∷◌, ◌++◌, length, drop, Some, None, refl, ap, ◌∙◌, arith}
+use Rattle.gql_tokens.specs.Runs.{Rule, run, run_behind}
 
 pub skip_value : (rule : Rule) (k : ℕ) (text : List ℕ) → (run_behind rule k text).0 ≡ (run rule (drop k text)).0
 skip_value rule zero [] = refl

@@ -1,7 +1,5 @@
 -- Spans, one after another.
-use Rattle.std.proofs.Common.{◌≡◌, ◌≤◌, ◌<◌, ℕ, ◌+◌, ◌-◌, List, [], ◌∷◌, ◌++◌, map, length, take, drop, refl, sym, ap, ◌∙◌, arith, append_assoc}
-use Rattle.gql_tokens.specs.declared.token.Place.{Place}
-use Rattle.gql_tokens.specs.declared.token.Kind.{Kind}
+use Rattle.std.proofs.Common.{◌≡◌, ◌≤◌, ◌<◌, ℕ, ◌+◌, ◌-◌, List, [], ◌∷◌, ◌++◌, map, length, drop, refl, sym, ap, ◌∙◌, arith}
 use Rattle.gql_tokens.specs.declared.token.Token.{Token as Span}
 use Rattle.gql_tokens.specs.declared.heads.Head.{Head}
 use Rattle.gql_tokens.specs.Tokens.{Token, seen, AreInOrder}

@@ -1,11 +1,11 @@
 -- The tokens of a text, stretch by stretch.
-use Rattle.std.proofs.Common.{◌≡◌, ◌≢◌, ◌≤◌, ◌<◌, ℕ, zero, suc, ◌+◌, ◌-◌, Bool, true, false, cond, eqb, List, [], ◌∷◌, length, take, drop, Option, Some, None, unwrap_or, refl, sym, ap, subst, ◌∙◌, arith}
+use Rattle.std.proofs.Common.{◌≡◌, ◌<◌, ℕ, zero, suc, ◌-◌, false, cond, eqb, List, [], ◌∷◌, take, drop, Option, Some, None, unwrap_or, refl, ap, subst, arith}
 use Rattle.gql_tokens.specs.declared.token.Place.{Place}
 use Rattle.gql_tokens.specs.declared.token.Kind.{Kind}
-use Rattle.gql_tokens.specs.declared.token.Kind.TheVariants.{Fault, End}
+use Rattle.gql_tokens.specs.declared.token.Kind.TheVariants.{Fault}
 use Rattle.gql_tokens.specs.Places.{place_behind, place_after}
 use Rattle.gql_tokens.specs.Lexemes.{ignored_len, token_at}
-use Rattle.gql_tokens.specs.Tokens.{Token, end_at, fault_at, taken, lexed, tokens_behind, tokens_from}
+use Rattle.gql_tokens.specs.Tokens.{Token, taken, tokens_behind, tokens_from}
 use Rattle.gql_tokens.specs.Heads.{is_last, head_of}
 use Rattle.gql_tokens.proofs.LexemeLaws.{token_lies}
 

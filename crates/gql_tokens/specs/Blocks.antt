@@ -1,5 +1,5 @@
 -- Block strings (GraphQL October 2021, 2.9.4).
-use Rattle.std.specs.Prelude.{◌≡◌, ℕ, ◌+◌, ◌-◌, ◌==◌, ◌||◌, ◌&&◌, min, Bool, true, false, not, if◌then◌else◌, Option, Some, None, List, [], ◌∷◌, ◌++◌, length, take, drop, map, filter}
+use Rattle.std.specs.Prelude.{ℕ, ◌+◌, ◌-◌, ◌==◌, min, Bool, not, if◌then◌else◌, Option, Some, None, List, [], ◌∷◌, length, take, drop, map, filter}
 use Rattle.std.specs.List.{list_all, prefix_len, suffix_len, join_with_byte}
 use Rattle.gql_tokens.specs.Characters.{begins_with, source_character, is_white_space, ends_line}
 use Rattle.gql_tokens.specs.Runs.{run}

@@ -1,5 +1,5 @@
 -- Source characters, white space and line ends (GraphQL October 2021, 2.1.1 to 2.1.3), over the bytes of a text.
-use Rattle.std.specs.Prelude.{◌≡◌, ℕ, ◌+◌, ◌==◌, ◌||◌, ◌&&◌, nat_lt, nat_le, nat_eq, Bool, true, false, not, if◌then◌else◌, Option, Some, None, List, [], ◌∷◌, length, take}
+use Rattle.std.specs.Prelude.{ℕ, ◌==◌, ◌||◌, ◌&&◌, nat_lt, nat_le, nat_eq, Bool, not, if◌then◌else◌, Option, Some, None, List, [], ◌∷◌, length, take}
 use Rattle.std.specs.List.{starts_with}
 use Rattle.std.specs.Str.{is_utf8}
 

@@ -1,12 +1,10 @@
 -- The first token of what is left of a text.
-use Rattle.std.specs.Prelude.{◌≡◌, ℕ, ◌+◌, ◌-◌, ◌<◌, ◌≤◌, Bool, true, false, List, [], ◌∷◌, Option, Some, None, length, take, drop, unwrap_or}
+use Rattle.std.specs.Prelude.{◌≡◌, ℕ, ◌≤◌, Bool, true, false, List, [], ◌∷◌, length, take, drop, unwrap_or}
 use Rattle.gql_tokens.specs.declared.token.Place.{Place}
 use Rattle.gql_tokens.specs.declared.token.Kind.{Kind}
-use Rattle.gql_tokens.specs.declared.token.Kind.TheVariants.{Fault, End, Name, Integer}
+use Rattle.gql_tokens.specs.declared.token.Kind.TheVariants.{Fault, End}
 use Rattle.gql_tokens.specs.declared.heads.Head.{Head}
-use Rattle.gql_tokens.specs.Names.{IsName}
-use Rattle.gql_tokens.specs.Numbers.{IsInteger}
-use Rattle.gql_tokens.specs.Places.{first_place, place_after}
+use Rattle.gql_tokens.specs.Places.{place_after}
 use Rattle.gql_tokens.specs.Lexemes.{ignored_len, token_at}
 use Rattle.gql_tokens.specs.Tokens.{Token, tokens_from}
 use Rattle.gql_tokens.specs.Readings.{HasRoom}

@@ -1,5 +1,5 @@
 -- The lexical grammar: what stands at the front of a text (GraphQL October 2021, 2.1.5 to 2.1.8).
-use Rattle.std.specs.Prelude.{◌≡◌, ℕ, ◌+◌, ◌==◌, ◌||◌, ◌&&◌, nat_lt, Bool, true, false, not, if◌then◌else◌, Option, Some, None, List, [], ◌∷◌, length, take, drop, codes, option_map}
+use Rattle.std.specs.Prelude.{ℕ, ◌+◌, ◌==◌, ◌||◌, if◌then◌else◌, Option, Some, None, List, [], ◌∷◌, drop, codes, option_map}
 use Rattle.std.specs.List.{prefix_len}
 use Rattle.gql_tokens.specs.declared.token.Kind.{Kind}
 use Rattle.gql_tokens.specs.declared.token.Kind.TheVariants.{Bang, Dollar, Ampersand, ParenOpen, ParenClose, Spread, Colon, Equals, At, BracketOpen, BracketClose, BraceOpen, Pipe, BraceClose, Name, Integer, String}

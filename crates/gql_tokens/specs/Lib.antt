@@ -2,6 +2,7 @@ pub mod Blocks
 pub mod Characters
 pub mod Cursors
 pub mod Heads
+pub mod Laws
 pub mod Lexemes
 pub mod Names
 pub mod Nesting

@@ -1,8 +1,6 @@
 -- What the values of the code mean in the terms of the definitions.
-use Rattle.std.specs.Prelude.{◌≡◌, ℕ, ◌+◌, ◌<◌, ◌≤◌, ◌^◌, List, [], ◌∷◌, Option, Some, None, length, map, encode_utf8}
+use Rattle.std.specs.Prelude.{ℕ, ◌+◌, ◌<◌, ◌≤◌, ◌^◌, List, [], Option, Some, None, length, map, encode_utf8}
 use Rattle.gql_tokens.specs.declared.token.Place.{Place}
-use Rattle.gql_tokens.specs.declared.token.Kind.{Kind}
-use Rattle.gql_tokens.specs.declared.token.Kind.TheVariants.{Fault, End}
 use Rattle.gql_tokens.specs.declared.characters.Character.{Character}
 use Rattle.gql_tokens.specs.declared.characters.Character.TheVariants.{Source, Escaped, Mark}
 use Rattle.gql_tokens.specs.declared.runs.Context.{Context}
@@ -11,8 +9,7 @@ use Rattle.gql_tokens.specs.Runs.{Rule}
 use Rattle.gql_tokens.specs.Strings.{string_character}
 use Rattle.gql_tokens.specs.Blocks.{block_mark, block_character, lines_of}
 use Rattle.std.specs.Borrow.{Bor}
-use Rattle.gql_tokens.specs.Places.{place_after}
-use Rattle.gql_tokens.specs.Lexemes.{comment_character, token_at}
+use Rattle.gql_tokens.specs.Lexemes.{comment_character}
 
 -- what a character means, and how many bytes it takes
 abbrev pub meant : Character → List ℕ × ℕ

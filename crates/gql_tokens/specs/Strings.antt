@@ -1,5 +1,5 @@
 -- Strings (GraphQL October 2021, 2.9.4).
-use Rattle.std.specs.Prelude.{◌≡◌, ℕ, ◌+◌, ◌-◌, ◌*◌, ◌==◌, ◌||◌, ◌&&◌, nat_lt, nat_le, Bool, true, false, if◌then◌else◌, Option, Some, None, List, [], ◌∷◌, length, take, drop, encode_utf8, codes, option_and_then, slice_index}
+use Rattle.std.specs.Prelude.{ℕ, ◌+◌, ◌-◌, ◌*◌, ◌==◌, ◌||◌, ◌&&◌, nat_lt, nat_le, Bool, if◌then◌else◌, Option, Some, None, List, [], ◌∷◌, length, drop, encode_utf8, codes, option_and_then, slice_index}
 use Rattle.gql_tokens.specs.Characters.{begins_with, source_character, is_line_end}
 use Rattle.gql_tokens.specs.Runs.{run}
 

@@ -1,5 +1,5 @@
 -- The tokens of a text (GraphQL October 2021, 2.1.6).
-use Rattle.std.specs.Prelude.{◌≡◌, ℕ, ℤ, zero, suc, ◌+◌, ◌-◌, ◌<◌, ◌≤◌, ◌==◌, if◌then◌else◌, Option, Some, None, List, [], ◌∷◌, ◌++◌, length, take, drop, map, slice_range, ⊤}
+use Rattle.std.specs.Prelude.{◌≡◌, ℕ, ℤ, zero, suc, ◌-◌, ◌<◌, ◌≤◌, ◌==◌, if◌then◌else◌, Option, Some, None, List, [], ◌∷◌, ◌++◌, length, take, drop, map, slice_range, ⊤}
 use Rattle.gql_tokens.specs.declared.token.Place.{Place}
 use Rattle.gql_tokens.specs.declared.token.Kind.{Kind}
 use Rattle.gql_tokens.specs.declared.token.Kind.TheVariants.{Fault, End}

@@ -1,6 +1,6 @@
 //! Integers (GraphQL October 2021, 2.9.1).
 
-ghost use Rattle.std.specs.Prelude.{◌≡◌, ◌≤◌, ◌<◌, ◌^◌, ◌&&◌, length, MatchOption, IfSome, true};
+ghost use Rattle.std.specs.Prelude.{◌≡◌, ◌≤◌, ◌<◌, ◌^◌, ◌&&◌, length, MatchOption, IfOk, IfSome, true};
 ghost use Rattle.std.specs.List.{list_all, prefix_len};
 ghost use Rattle.gql_tokens.specs.Numbers as spec;
 ghost use Rattle.gql_tokens.specs.Names.{is_digit};
@@ -9,6 +9,9 @@ ghost use Rattle.gql_tokens.specs.Tokens.{integer_value_of};
 
 use crate::characters::begins_with;
 use crate::names::{is_digit, is_name_start};
+use std::alloc::Global;
+use std::str;
+use text_types::{Memory, Text};
 
 /// One more than the greatest integer, and the magnitude of the least one.
 const LIMIT: u64 = 0x8000_0000_0000_0000;
@@ -123,6 +126,17 @@ pub(crate) fn integer_len(text: &[u8]) -> Option<usize>
         Some(len)
     } else {
         None
+    }
+}
+
+/// An integer as a text.
+pub fn integer_text(alloc: Global, text: &[u8]) -> Result<Text, Memory>
+    requires { IsInteger text.now }
+    ensures { IfOk result (λ t. t ≡ text.now) }
+{
+    match str::from_utf8(text) {
+        Ok(integer) => Text::from_str(alloc, integer),
+        Err(_) => unreachable!(),
     }
 }
 

@@ -1,4 +1,4 @@
-use Rattle.std.proofs.Common.{◌≡◌, ◌∷◌, ℕ, List, length, take, drop, refl, sym, ap, ◌∙◌}
+use Rattle.std.proofs.Common.{◌≡◌, ◌∷◌, ℕ, List, take, drop, refl, sym, ap, ◌∙◌}
 use Rattle.std.specs.List.{prefix_len}
 use Rattle.gql_tokens.specs.Blocks.{lines_of}
 use Rattle.gql_tokens.proofs.BlockLaws.{in_line, lines_behind, lines_split, nothing}

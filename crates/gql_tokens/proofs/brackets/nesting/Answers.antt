@@ -1,4 +1,4 @@
-use Rattle.std.proofs.Common.{sym, ◌∙◌, arith}
+use Rattle.std.proofs.Common.{sym, arith}
 use Rattle.gql_tokens.specs.Heads.{token_of}
 use Rattle.gql_tokens.proofs.HeadLaws.{last_token}
 use Rattle.gql_tokens.proofs.NestingLaws.{open_le, nesting_turn, nesting_end}

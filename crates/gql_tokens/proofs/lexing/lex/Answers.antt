@@ -1,4 +1,4 @@
-use Rattle.std.proofs.Common.{◌≡◌, ◌-◌, ◌∷◌, ◌++◌, ℕ, List, map, length, sym, ap, ◌∙◌, subst, arith}
+use Rattle.std.proofs.Common.{◌-◌, ◌++◌, ℕ, List, map, length, sym, ap, ◌∙◌, subst, arith}
 use Rattle.gql_tokens.specs.Places.{first_place}
 use Rattle.gql_tokens.specs.Tokens.{Token, seen, AreInOrder}
 use Rattle.gql_tokens.specs.Heads.{token_of}

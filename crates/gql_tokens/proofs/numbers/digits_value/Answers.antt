@@ -1,4 +1,4 @@
-use Rattle.std.proofs.Common.{◌≡◌, ◌≤◌, ℕ, ◌^◌, arith}
+use Rattle.std.proofs.Common.{◌≤◌, ◌^◌, arith}
 use Rattle.gql_tokens.specs.Numbers as spec
 use Rattle.gql_tokens.proofs.NumberLaws.{too_large}
 use Rattle.gql_tokens.proofs.numbers.digits_value.Goals as goal

@@ -1,5 +1,4 @@
-use Rattle.std.proofs.Common.{◌∙◌, ◌∷◌, sym, subst, arith}
-use Rattle.gql_tokens.specs.Places.{place_after}
+use Rattle.std.proofs.Common.{◌∙◌, subst, arith}
 use Rattle.gql_tokens.specs.Readings.{HasRoom}
 use Rattle.gql_tokens.proofs.PlaceLaws.{place_turn, rest_turn, behind_room}
 use Rattle.gql_tokens.proofs.places.after.Goals as goal

@@ -1,4 +1,4 @@
-use Rattle.std.proofs.Common.{◌≡◌, ◌+◌, ℕ, List, drop, ap, sym, ◌∙◌, arith}
+use Rattle.std.proofs.Common.{◌≡◌, ℕ, List, drop, ap, sym, ◌∙◌, arith}
 use Rattle.gql_tokens.specs.Runs.{run}
 use Rattle.gql_tokens.specs.Readings.{meant, rule_of}
 use Rattle.gql_tokens.proofs.RunLaws.{run_len}

@@ -1,6 +1,6 @@
 use Rattle.std.proofs.Common.{ap, sym, ◌∙◌}
 use Rattle.gql_tokens.specs.Heads.{is_last}
-use Rattle.gql_tokens.specs.Cursors.{first_kind, tokens_behind_first}
+use Rattle.gql_tokens.specs.Cursors.{first_kind}
 use Rattle.gql_tokens.proofs.HeadLaws.{head_token}
 use Rattle.gql_tokens.proofs.lexer.Lexer.advance.Goals as goal
 

@@ -1,0 +1,5 @@
+pub mod Lexing
+pub mod Printable
+pub mod Quotes
+pub mod Texts
+pub mod Words
