@@ -12,8 +12,8 @@ use crate::line::{Cause, push_fetch, push_refused, push_reply};
 use crate::reading::read_query;
 use gate_machine::{OpenOperation, Write};
 use gql_documents::{Document, SyntaxError, nesting, parse_document};
-use plain_queries::{SelectionSet, plain_query, sent_text};
 use gql_value::Value;
+use plain_queries::{SelectionSet, plain_query, sent_text};
 use std::alloc::Global;
 use std::marker::Model;
 use text_types::{Bytes, Items, Memory};
@@ -191,11 +191,7 @@ impl Gate {
         let fetch = self.history.len() as u64 + 1;
         push_fetch(fetch, &sent_text(alloc, &query)?, out)?;
         self.history.push(Items::new(alloc))?;
-        self.waiting.push(OpenOperation {
-            id,
-            fetch,
-            query,
-        })?;
+        self.waiting.push(OpenOperation { id, fetch, query })?;
         Ok(())
     }
 

@@ -53,12 +53,15 @@ ends_braced {A} {R} {V} {p} {q} l = record { complete = complete; stops = λ ts 
   where
     lp : Law 0 (Braced R) (Braced V) p q (record { empty = false; enter = brace; goes = []; some = true; sound = true })
     lp = l.law refl
+
     read : (front : Toks) (o : Option (List A)) (rest : Toks) → Opt (Braced R) front o → (is_none_of (or_none o) ≡ true → starts brace rest ≡ false) → opt brace p (front ++ rest) ≡ Done o rest
     read front None rest r h = rw r (opt_out brace p rest (h refl))
     read front (Some all) rest r h = opt_in brace p (front ++ rest) (Done all rest) (enters brace (record { empty = false; enter = brace; goes = []; some = true; sound = true }) front rest (lp.begins front all r) refl refl) (lp.exact.complete front all rest r (no_sort rest))
+
     complete : (front : Toks) (all : List A) (rest : Toks) → Perhaps (Braced R) front all → starts [] rest ≡ false → (is_none_of all ≡ true → starts brace rest ≡ false) → and_then (opt brace p (front ++ rest)) (λ o r. Done (or_none o) r) ≡ Done all rest
     complete front all rest r g h =
         rw (read front r.of rest r.rule (λ e. h (ap is_none_of (sym r.is) ∙ e))) (ap (λ (xs : List A). Done xs rest) r.is)
+
     stops : (ts : Toks) (all : List A) (rest : Toks) (b : Bool) → starts brace ts ≡ b → and_then (opt brace p ts) (λ o r. Done (or_none o) r) ≡ Done all rest → is_none_of all ≡ true → starts brace rest ≡ false
     stops ts all rest false s e o =
         let is : Done [] ts ≡ Done all rest = ap (λ (x : Outcome _). and_then x (λ o r. Done (or_none o) r)) (sym (opt_out brace p ts s)) ∙ e in
@@ -116,11 +119,14 @@ ends_either {A} {R} {V} {S} {W} {p} {p'} {q} {q'} {s} {t} {open_ended} {g} {g'} 
   where
     lp : Law 0 R V p p' s
     lp = l.law okl
+
     lq : Law 0 S W q q' t
     lq = m.law okm
+
     complete : (front : Toks) (a : A) (rest : Toks) → Either R S front a → starts (g ++ g') rest ≡ false → (open_ended a ≡ true → starts brace rest ≡ false) → either sorts p q (front ++ rest) ≡ Done a rest
     complete front a rest (inl r) k h = either_in sorts p q (front ++ rest) (enters sorts s front rest (lp.begins front a r) ns cover) ∙ ends.complete front a rest r (starts_left g g' rest k) h
     complete front a rest (inr r) k h = either_out sorts p q (front ++ rest) (starts_apart t.enter sorts (front ++ rest) d (starts_front t.enter front rest (entered t front (lq.begins front a r) nt))) ∙ other.complete front a rest r (starts_right g g' rest k) h
+
     stops : (ts : Toks) (a : A) (rest : Toks) (b : Bool) → starts sorts ts ≡ b → either sorts p q ts ≡ Done a rest → open_ended a ≡ true → starts brace rest ≡ false
     stops ts a rest true i e o = ends.stops ts a rest (sym (either_in sorts p q ts i) ∙ e) o
     stops ts a rest false i e o = other.stops ts a rest (sym (either_out sorts p q ts i) ∙ e) o

@@ -15,7 +15,6 @@ use Rattle.gql_documents.proofs.Parts.{law_made, law_opt, opt_shape, law_behind_
 
 -- ---- wider shapes
 
-
 abbrev pub leads : Bool → Bool → Bool
 leads true b = b
 leads false b = true
@@ -38,18 +37,20 @@ law_fit {n = n} {s = s} t l ok =
     let ok3 = and_right s.some _ ok2 in
     let ok4 = and_right (leads s.empty t.empty) _ ok3 in
     let lp = l.law (and_left _ _ ok) in
-    record { law = λ h. record {
-      exact = record {
-        done = lp.exact.done;
-        fail = lp.exact.fail;
-        complete = λ front a rest r g. lp.exact.complete front a rest r (starts_less t.goes s.goes rest (and_right (covers t.enter s.enter) _ ok4) g);
+    record {
+      law = λ h. record {
+        exact = record {
+          done = lp.exact.done;
+          fail = lp.exact.fail;
+          complete = λ front a rest r g. lp.exact.complete front a rest r (starts_less t.goes s.goes rest (and_right (covers t.enter s.enter) _ ok4) g);
+        };
+        begins = λ front a r. fit_begins s t front (and_left (leads s.empty t.empty) _ ok3) (and_left (covers t.enter s.enter) _ ok4) (lp.begins front a r);
+        sub = lp.sub;
+        plain = lp.plain;
+        some = λ k. lp.some (and_left s.some _ ok2);
+        agree = lp.agree;
       };
-      begins = λ front a r. fit_begins s t front (and_left (leads s.empty t.empty) _ ok3) (and_left (covers t.enter s.enter) _ ok4) (lp.begins front a r);
-      sub = lp.sub;
-      plain = lp.plain;
-      some = λ k. lp.some (and_left s.some _ ok2);
-      agree = lp.agree;
-    } }
+    }
 
 -- texts that aren't empty
 abbrev pub shape : List Sort → List Sort → Shape

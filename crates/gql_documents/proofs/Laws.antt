@@ -231,14 +231,16 @@ one_plain sorts x front f e h = rw (e, sort_plain sorts x f h) refl
 
 pub law_one : {A : Type 0} {n : ℕ} (value : Token → Option A) (sorts : List Sort) → ((x : Token) (a : A) → value x ≡ Some a → is_in sorts x ≡ true)
     → last_free sorts ≡ true → (x : Token) (a : A) → value x ≡ Some a → x.place ≡ origin → Lawful n (One value) (One value) (tok value) (tok value) (one_shape sorts)
-law_one value sorts h free x a e at = record { law = λ ok. record {
-  exact = record { done = tok_done value; fail = tok_fail value; complete = λ front a rest r s. tok_complete value front a rest r };
-  begins = λ front b r. inl (begins_one sorts r.0 front r.1 (h r.0 b r.2));
-  sub = λ front b r. r;
-  some = λ ok. record { text = x ∷ []; tree = a; rule = (x, refl, e); at = at };
-  plain = λ front b r. one_plain sorts r.0 front free r.1 (h r.0 b r.2);
-  agree = λ ts lt. refl;
-} }
+law_one value sorts h free x a e at = record {
+  law = λ ok. record {
+    exact = record { done = tok_done value; fail = tok_fail value; complete = λ front a rest r s. tok_complete value front a rest r };
+    begins = λ front b r. inl (begins_one sorts r.0 front r.1 (h r.0 b r.2));
+    sub = λ front b r. r;
+    some = λ ok. record { text = x ∷ []; tree = a; rule = (x, refl, e); at = at };
+    plain = λ front b r. one_plain sorts r.0 front free r.1 (h r.0 b r.2);
+    agree = λ ts lt. refl;
+  };
+}
 
 unit_is : (b : Bool) (u : Unit {0}) → unit_if b ≡ Some u → b ≡ true
 unit_is true u e = refl
@@ -388,22 +390,24 @@ agree_seq {A} {B} n {p} {p'} {q} {q'} short hp hq ts lt =
     ∙ ap (λ (o : Outcome A). and_then o (λ a mid. and_then (q' mid) (λ b rest. paired A B a b rest))) (hp ts lt)
 
 pub law_seq : {A B : Type 0} {n : ℕ} {R V : Rule A} {S W : Rule B} {p p' : Parser A} {q q' : Parser B} {s t : Shape} → Lawful n R V p p' s → Lawful n S W q q' t → Lawful n (Seq R S) (Seq V W) (seq p q) (seq p' q') (seq_shape s t)
-law_seq {n = n} {R = R} {V = V} {S = S} {W = W} {p = p} {q = q} {s = s} {t = t} l m = record { law = λ ok.
-    let rest_ok = and_right s.sound _ ok in
-    let some_ok = and_right t.sound _ rest_ok in
-    let lp = l.law (and_left _ _ ok) in
-    let lq = m.law (and_left _ _ rest_ok) in
-    let i = lq.some (and_left _ _ some_ok) in
-    let parts = seq_parts S t s.goes lq.begins (and_right t.some _ some_ok) in
-    record {
-      exact = record {
-        done = seq_done R V S W p q s.goes t.goes lp.exact lq.exact;
-        fail = seq_fail R V S W p q s.goes t.goes lp.exact lp.sub lq.exact i;
-        complete = seq_complete R V S W p q s.goes t.goes (t.goes ++ sorts_if t.empty s.goes) lp.exact lq.exact parts (λ rest h. starts_left t.goes _ rest h);
+law_seq {n = n} {R = R} {V = V} {S = S} {W = W} {p = p} {q = q} {s = s} {t = t} l m = record {
+  law = λ ok.
+      let rest_ok = and_right s.sound _ ok in
+      let some_ok = and_right t.sound _ rest_ok in
+      let lp = l.law (and_left _ _ ok) in
+      let lq = m.law (and_left _ _ rest_ok) in
+      let i = lq.some (and_left _ _ some_ok) in
+      let parts = seq_parts S t s.goes lq.begins (and_right t.some _ some_ok) in
+      record {
+        exact = record {
+          done = seq_done R V S W p q s.goes t.goes lp.exact lq.exact;
+          fail = seq_fail R V S W p q s.goes t.goes lp.exact lp.sub lq.exact i;
+          complete = seq_complete R V S W p q s.goes t.goes (t.goes ++ sorts_if t.empty s.goes) lp.exact lq.exact parts (λ rest h. starts_left t.goes _ rest h);
+        };
+        begins = λ front ab r. seq_begins s t r.before r.after front r.whole (lp.begins r.before ab.0 r.first) (lq.begins r.after ab.1 r.second);
+        sub = λ front ab r. record { before = r.before; after = r.after; whole = r.whole; first = lp.sub r.before ab.0 r.first; second = lq.sub r.after ab.1 r.second };
+        some = λ h. some_seq (lp.some (and_left _ _ h)) i;
+        plain = λ front ab r. rw r.whole (plain_append r.before r.after (lp.plain r.before ab.0 r.first) (lq.plain r.after ab.1 r.second));
+        agree = agree_seq n (shortens lp.exact) lp.agree lq.agree;
       };
-      begins = λ front ab r. seq_begins s t r.before r.after front r.whole (lp.begins r.before ab.0 r.first) (lq.begins r.after ab.1 r.second);
-      sub = λ front ab r. record { before = r.before; after = r.after; whole = r.whole; first = lp.sub r.before ab.0 r.first; second = lq.sub r.after ab.1 r.second };
-      some = λ h. some_seq (lp.some (and_left _ _ h)) i;
-      plain = λ front ab r. rw r.whole (plain_append r.before r.after (lp.plain r.before ab.0 r.first) (lq.plain r.after ab.1 r.second));
-      agree = agree_seq n (shortens lp.exact) lp.agree lq.agree;
-    } }
+}

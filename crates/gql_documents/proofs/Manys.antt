@@ -198,7 +198,6 @@ pub agree_many : {A : Type 0} (n : ℕ) (enter : List Sort) {p p' : Parser A} �
 unfolding many
 agree_many n enter {p} {p'} short h ts lt = agree_turns (length ts) n enter p p' short h ts lt
 
-
 -- ---- the law
 
 abbrev pub repeated_shape : List Sort → Shape → Shape
@@ -240,19 +239,21 @@ many_plain h front [] r = rw r refl
 many_plain h front (a ∷ all) r = rw r.2 (plain_append r.0 r.1 (h r.0 a r.3) (many_plain h r.1 all r.4))
 
 pub law_many : {A : Type 0} {n : ℕ} {R V : Rule A} {p p' : Parser A} {s : Shape} (sorts : List Sort) → Lawful n R V p p' s → Lawful n (Many R) (Many V) (many sorts p) (many sorts p') (repeated_shape sorts s)
-law_many {n = n} {s = s} sorts l = record { law = λ ok.
-    let lp = l.law (and_left _ _ ok) in
-    let ok2 = and_right s.sound _ ok in
-    let ok3 = and_right (not s.empty) _ ok2 in
-    let item = item_of sorts lp (and_left _ _ ok2) (and_left _ _ ok3) (and_right (covers sorts s.enter) _ ok3) in
-    record {
-      exact = exact_many item;
-      begins = many_begins s item;
-      sub = sub_many lp.sub;
-      some = λ h. record { text = []; tree = []; rule = refl; at = refl };
-      plain = many_plain lp.plain;
-      agree = agree_many n sorts (shortens lp.exact) lp.agree;
-    } }
+law_many {n = n} {s = s} sorts l = record {
+  law = λ ok.
+      let lp = l.law (and_left _ _ ok) in
+      let ok2 = and_right s.sound _ ok in
+      let ok3 = and_right (not s.empty) _ ok2 in
+      let item = item_of sorts lp (and_left _ _ ok2) (and_left _ _ ok3) (and_right (covers sorts s.enter) _ ok3) in
+      record {
+        exact = exact_many item;
+        begins = many_begins s item;
+        sub = sub_many lp.sub;
+        some = λ h. record { text = []; tree = []; rule = refl; at = refl };
+        plain = many_plain lp.plain;
+        agree = agree_many n sorts (shortens lp.exact) lp.agree;
+      };
+}
 
 -- what isn't empty takes a token
 pub eats_of : {A : Type 0} {n : ℕ} {R V : Rule A} {p p' : Parser A} {s : Shape} → Law n R V p p' s → s.empty ≡ false → Eats p

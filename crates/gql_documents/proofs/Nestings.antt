@@ -18,18 +18,20 @@ pub record Knot {A : Type 0} (F : Rule A → Rule A) (f : Parser A → Parser A)
 module _ {A : Type 0} (F : Rule A → Rule A) (f : Parser A → Parser A) (s : Shape) (knot : Knot F f s) where
   none : (p' : Parser A) → Lawful 0 (Depth F 0) (Depth F 1) (depth f 0) p' s
   unfolding depth refuse
-  none p' = record { law = λ ok. record {
-    exact = record {
-      done = λ ts a rest e. absurd cc;
-      fail = λ ts rest e. record { front = []; whole = fail_rest A ts rest e; local = λ other same. refl; viable = inl refl };
-      complete = λ front a rest r g. absurd r;
+  none p' = record {
+    law = λ ok. record {
+      exact = record {
+        done = λ ts a rest e. absurd cc;
+        fail = λ ts rest e. record { front = []; whole = fail_rest A ts rest e; local = λ other same. refl; viable = inl refl };
+        complete = λ front a rest r g. absurd r;
+      };
+      begins = λ front a r. absurd r;
+      sub = λ front a r. absurd r;
+      some = λ h. knot.some;
+      plain = λ front a r. absurd r;
+      agree = λ ts lt. absurd (omega arith);
     };
-    begins = λ front a r. absurd r;
-    sub = λ front a r. absurd r;
-    some = λ h. knot.some;
-    plain = λ front a r. absurd r;
-    agree = λ ts lt. absurd (omega arith);
-  } }
+  }
 
   level : (n m : ℕ) → n ≤ m → Lawful n (Depth F n) (Depth F (suc n)) (depth f n) (depth f m) s
   unfolding depth
@@ -50,9 +52,16 @@ module _ {A : Type 0} (F : Rule A → Rule A) (f : Parser A → Parser A) (s : S
   again ts =
       let n = length ts in
       let l = at_level n in
-      let toward : Lawful n (Depth F n) (Depth F (suc n)) (depth f n) (nested f) s = record { law = λ ok. record {
-        exact = l.exact; begins = l.begins; sub = l.sub; some = l.some; plain = l.plain; agree = λ us lt. sym (nested_at us n lt);
-      } } in
+      let toward : Lawful n (Depth F n) (Depth F (suc n)) (depth f n) (nested f) s = record {
+        law = λ ok. record {
+          exact = l.exact;
+          begins = l.begins;
+          sub = l.sub;
+          some = l.some;
+          plain = l.plain;
+          agree = λ us lt. sym (nested_at us n lt);
+        };
+      } in
       ((knot.step n (Depth F n) (Depth F (suc n)) (depth f n) (nested f) toward).law knot.sound).agree ts (omega arith)
 
   deeper : (n k : ℕ) → Sub (Depth F n) (Depth F (n + k))
@@ -101,11 +110,13 @@ module _ {A : Type 0} (F : Rule A → Rule A) (f : Parser A → Parser A) (s : S
       nested_at (front ++ rest) m (omega arith) ∙ (at_level m).exact.complete front a rest (deeper k (suc (length (front ++ rest))) front a r) g
 
   pub law_nested : (n : ℕ) → Lawful n (Nested F) (Nested F) (nested f) (nested f) s
-  law_nested n = record { law = λ ok. record {
-    exact = record { done = nested_done; fail = nested_fail; complete = nested_complete };
-    begins = λ front a r. (at_level r.0).begins front a r.1;
-    sub = λ front a r. r;
-    some = λ h. let i = knot.some in record { text = i.text; tree = i.tree; rule = (1, i.rule); at = i.at };
-    plain = λ front a r. (at_level r.0).plain front a r.1;
-    agree = λ ts lt. refl;
-  } }
+  law_nested n = record {
+    law = λ ok. record {
+      exact = record { done = nested_done; fail = nested_fail; complete = nested_complete };
+      begins = λ front a r. (at_level r.0).begins front a r.1;
+      sub = λ front a r. r;
+      some = λ h. let i = knot.some in record { text = i.text; tree = i.tree; rule = (1, i.rule); at = i.at };
+      plain = λ front a r. (at_level r.0).plain front a r.1;
+      agree = λ ts lt. refl;
+    };
+  }

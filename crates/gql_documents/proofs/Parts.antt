@@ -51,16 +51,18 @@ unfolding via
 agree_via n f h ts lt = rw (h ts lt) refl
 
 pub law_made : {A C : Type 0} {n : ℕ} {R V : Rule A} {p p' : Parser A} {s : Shape} (f : A → C) → Lawful n R V p p' s → Lawful n (Made f R) (Made f V) (via f p) (via f p') s
-law_made {n = n} f l = record { law = λ ok.
-    let lp = l.law ok in
-    record {
-      exact = exact_made f lp.exact;
-      begins = λ front c r. lp.begins front r.of r.rule;
-      sub = λ front c r. record { of = r.of; is = r.is; rule = lp.sub front r.of r.rule };
-      some = λ h. let i = lp.some h in record { text = i.text; tree = f i.tree; rule = record { of = i.tree; is = refl; rule = i.rule }; at = i.at };
-      plain = λ front c r. lp.plain front r.of r.rule;
-      agree = agree_via n f lp.agree;
-    } }
+law_made {n = n} f l = record {
+  law = λ ok.
+      let lp = l.law ok in
+      record {
+        exact = exact_made f lp.exact;
+        begins = λ front c r. lp.begins front r.of r.rule;
+        sub = λ front c r. record { of = r.of; is = r.is; rule = lp.sub front r.of r.rule };
+        some = λ h. let i = lp.some h in record { text = i.text; tree = f i.tree; rule = record { of = i.tree; is = refl; rule = i.rule }; at = i.at };
+        plain = λ front c r. lp.plain front r.of r.rule;
+        agree = agree_via n f lp.agree;
+      };
+}
 
 -- ---- a part or nothing
 
@@ -142,23 +144,25 @@ opt_plain h front None r = rw r refl
 opt_plain h front (Some a) r = h front a r
 
 pub law_opt : {A : Type 0} {n : ℕ} {R V : Rule A} {p p' : Parser A} {s : Shape} (sorts : List Sort) → Lawful n R V p p' s → Lawful n (Opt R) (Opt V) (opt sorts p) (opt sorts p') (opt_shape sorts s)
-law_opt {n = n} {R = R} {V = V} {p = p} {s = s} sorts l = record { law = λ ok.
-    let lp = l.law (and_left _ _ ok) in
-    let ok2 = and_right s.sound _ ok in
-    let nonempty = and_left (not s.empty) _ ok2 in
-    let cover = and_right (not s.empty) _ ok2 in
-    record {
-      exact = record {
-        done = λ ts o rest e. opt_done R V sorts p s.goes lp.exact ts (starts sorts ts) refl o rest e;
-        fail = λ ts rest e. opt_fail R V sorts p s.goes lp.exact ts (starts sorts ts) refl rest e;
-        complete = opt_complete R V sorts p s.goes lp.exact (λ front a rest r. enters sorts s front rest (lp.begins front a r) nonempty cover);
+law_opt {n = n} {R = R} {V = V} {p = p} {s = s} sorts l = record {
+  law = λ ok.
+      let lp = l.law (and_left _ _ ok) in
+      let ok2 = and_right s.sound _ ok in
+      let nonempty = and_left (not s.empty) _ ok2 in
+      let cover = and_right (not s.empty) _ ok2 in
+      record {
+        exact = record {
+          done = λ ts o rest e. opt_done R V sorts p s.goes lp.exact ts (starts sorts ts) refl o rest e;
+          fail = λ ts rest e. opt_fail R V sorts p s.goes lp.exact ts (starts sorts ts) refl rest e;
+          complete = opt_complete R V sorts p s.goes lp.exact (λ front a rest r. enters sorts s front rest (lp.begins front a r) nonempty cover);
+        };
+        begins = opt_begins R sorts s (λ front a r. starts_covers sorts s.enter front cover (entered s front (lp.begins front a r) nonempty));
+        sub = sub_opt lp.sub;
+        some = λ h. record { text = []; tree = None; rule = refl; at = refl };
+        plain = opt_plain lp.plain;
+        agree = agree_opt n sorts lp.agree;
       };
-      begins = opt_begins R sorts s (λ front a r. starts_covers sorts s.enter front cover (entered s front (lp.begins front a r) nonempty));
-      sub = sub_opt lp.sub;
-      some = λ h. record { text = []; tree = None; rule = refl; at = refl };
-      plain = opt_plain lp.plain;
-      agree = agree_opt n sorts lp.agree;
-    } }
+}
 
 -- ---- one part or another
 
@@ -230,31 +234,33 @@ either_plain h k front a (inl r) = h front a r
 either_plain h k front a (inr r) = k front a r
 
 pub law_either : {A : Type 0} {n : ℕ} {R V S W : Rule A} {p p' q q' : Parser A} {s t : Shape} (sorts : List Sort) → Lawful n R V p p' s → Lawful n S W q q' t → Lawful n (Either R S) (Either V W) (either sorts p q) (either sorts p' q') (either_shape sorts s t)
-law_either {n = n} {R = R} {V = V} {S = S} {W = W} {p = p} {q = q} {s = s} {t = t} sorts l m = record { law = λ ok.
-    let ok2 = and_right s.sound _ ok in
-    let ok3 = and_right t.sound _ ok2 in
-    let ok4 = and_right (not s.empty) _ ok3 in
-    let ok5 = and_right (not t.empty) _ ok4 in
-    let lp = l.law (and_left _ _ ok) in
-    let lq = m.law (and_left _ _ ok2) in
-    let ns = and_left (not s.empty) _ ok3 in
-    let nt = and_left (not t.empty) _ ok4 in
-    let cover = and_left (covers sorts s.enter) _ ok5 in
-    let d = and_right (covers sorts s.enter) _ ok5 in
-    record {
-      exact = record {
-        done = λ ts a rest e. either_done R V S W sorts p q s.goes t.goes lp.exact lq.exact ts (starts sorts ts) refl a rest e;
-        fail = λ ts rest e. either_fail R V S W sorts p q s.goes t.goes lp.exact lq.exact ts (starts sorts ts) refl rest e;
-        complete = either_complete R V S W sorts p q s.goes t.goes lp.exact lq.exact
-            (λ front a rest r. enters sorts s front rest (lp.begins front a r) ns cover)
-            (λ front a rest r. starts_apart t.enter sorts (front ++ rest) d (starts_front t.enter front rest (entered t front (lq.begins front a r) nt)));
+law_either {n = n} {R = R} {V = V} {S = S} {W = W} {p = p} {q = q} {s = s} {t = t} sorts l m = record {
+  law = λ ok.
+      let ok2 = and_right s.sound _ ok in
+      let ok3 = and_right t.sound _ ok2 in
+      let ok4 = and_right (not s.empty) _ ok3 in
+      let ok5 = and_right (not t.empty) _ ok4 in
+      let lp = l.law (and_left _ _ ok) in
+      let lq = m.law (and_left _ _ ok2) in
+      let ns = and_left (not s.empty) _ ok3 in
+      let nt = and_left (not t.empty) _ ok4 in
+      let cover = and_left (covers sorts s.enter) _ ok5 in
+      let d = and_right (covers sorts s.enter) _ ok5 in
+      record {
+        exact = record {
+          done = λ ts a rest e. either_done R V S W sorts p q s.goes t.goes lp.exact lq.exact ts (starts sorts ts) refl a rest e;
+          fail = λ ts rest e. either_fail R V S W sorts p q s.goes t.goes lp.exact lq.exact ts (starts sorts ts) refl rest e;
+          complete = either_complete R V S W sorts p q s.goes t.goes lp.exact lq.exact
+              (λ front a rest r. enters sorts s front rest (lp.begins front a r) ns cover)
+              (λ front a rest r. starts_apart t.enter sorts (front ++ rest) d (starts_front t.enter front rest (entered t front (lq.begins front a r) nt)));
+        };
+        begins = either_begins R S sorts s t (λ front a r. entered s front (lp.begins front a r) ns) (λ front a r. entered t front (lq.begins front a r) nt);
+        sub = sub_either lp.sub lq.sub;
+        some = some_either V W s.some t.some lp.some lq.some;
+        plain = either_plain lp.plain lq.plain;
+        agree = agree_either n sorts lp.agree lq.agree;
       };
-      begins = either_begins R S sorts s t (λ front a r. entered s front (lp.begins front a r) ns) (λ front a r. entered t front (lq.begins front a r) nt);
-      sub = sub_either lp.sub lq.sub;
-      some = some_either V W s.some t.some lp.some lq.some;
-      plain = either_plain lp.plain lq.plain;
-      agree = agree_either n sorts lp.agree lq.agree;
-    } }
+}
 
 -- ---- a part that a flag may forbid
 
@@ -279,16 +285,18 @@ unfolding unless
 agree_unless n flag h ts lt = rw (h ts lt) refl
 
 pub law_unless : {A : Type 0} {n : ℕ} {R V : Rule A} {p p' : Parser A} {s : Shape} (flag : Bool) → Lawful n R V p p' s → Lawful n (Unless flag R) (Unless flag V) (unless flag p) (unless flag p') (unless_shape s)
-law_unless {n = n} flag l = record { law = λ ok.
-    let lp = l.law ok in
-    record {
-      exact = exact_unless flag lp.exact;
-      begins = λ front a r. lp.begins front a r.1;
-      sub = λ front a r. (r.0, lp.sub front a r.1);
-      some = λ h. absurd cc;
-      plain = λ front a r. lp.plain front a r.1;
-      agree = agree_unless n flag lp.agree;
-    } }
+law_unless {n = n} flag l = record {
+  law = λ ok.
+      let lp = l.law ok in
+      record {
+        exact = exact_unless flag lp.exact;
+        begins = λ front a r. lp.begins front a r.1;
+        sub = λ front a r. (r.0, lp.sub front a r.1);
+        some = λ h. absurd cc;
+        plain = λ front a r. lp.plain front a r.1;
+        agree = agree_unless n flag lp.agree;
+      };
+}
 
 -- ---- a part that knows its place
 
@@ -306,42 +314,44 @@ here_viable V (x ∷ front) rest (inr v) = inr (record { more = v.more; tree = v
 
 pub law_here : {A : Type 0} {n : ℕ} {R V : Place → Rule A} {p p' : Place → Parser A} {s : Shape} → ((place : Place) → Lawful n (R place) (V place) (p place) (p' place) s) → Lawful n (Here R) (Here V) (here p) (here p') (here_shape s)
 unfolding here
-law_here {n = n} {R = R} {V = V} {p = p} {s = s} l = record { law = λ ok.
-    let lp = λ (place : Place). (l place).law (and_left _ _ ok) in
-    let nonempty = and_right s.sound _ ok in
-    record {
-      exact = record {
-        done = λ ts a rest e.
-            let d = (lp (place_of ts)).exact.done ts a rest e in
-            let e1 : place_of ts ≡ place_of d.front = ap place_of d.whole ∙ place_front s.enter d.front rest (entered s d.front ((lp (place_of ts)).begins d.front a d.rule) nonempty) in
-            record {
-              front = d.front;
-              whole = d.whole;
-              rule = subst (λ (place : Place). R place d.front a) e1 d.rule;
-              local = λ other same.
-                  let e2 : place_of ts ≡ place_of (d.front ++ other) = ap place_of d.whole ∙ sym (place_first (d.front ++ other) (d.front ++ rest) (first-append d.front other rest same)) in
-                  subst (λ (place : Place). p place (d.front ++ other) ≡ Done a other) e2 (d.local other same);
-            };
-        fail = λ ts rest e.
-            let d = (lp (place_of ts)).exact.fail ts rest e in
-            record {
-              front = d.front;
-              whole = d.whole;
-              local = λ other same.
-                  let e2 : place_of ts ≡ place_of (d.front ++ other) = ap place_of d.whole ∙ sym (place_first (d.front ++ other) (d.front ++ rest) (first-append d.front other rest same)) in
-                  subst (λ (place : Place). p place (d.front ++ other) ≡ Fail other) e2 (d.local other same);
-              viable = here_viable V d.front rest (subst (λ (place : Place). (d.front ≡ []) ⊎ Viable (V place) d.front) (ap place_of d.whole) d.viable);
-            };
-        complete = λ front a rest r g.
-            let e1 : place_of front ≡ place_of (front ++ rest) = sym (place_front s.enter front rest (entered s front ((lp (place_of front)).begins front a r) nonempty)) in
-            subst (λ (place : Place). p place (front ++ rest) ≡ Done a rest) e1 ((lp (place_of front)).exact.complete front a rest r g);
+law_here {n = n} {R = R} {V = V} {p = p} {s = s} l = record {
+  law = λ ok.
+      let lp = λ (place : Place). (l place).law (and_left _ _ ok) in
+      let nonempty = and_right s.sound _ ok in
+      record {
+        exact = record {
+          done = λ ts a rest e.
+              let d = (lp (place_of ts)).exact.done ts a rest e in
+              let e1 : place_of ts ≡ place_of d.front = ap place_of d.whole ∙ place_front s.enter d.front rest (entered s d.front ((lp (place_of ts)).begins d.front a d.rule) nonempty) in
+              record {
+                front = d.front;
+                whole = d.whole;
+                rule = subst (λ (place : Place). R place d.front a) e1 d.rule;
+                local = λ other same.
+                    let e2 : place_of ts ≡ place_of (d.front ++ other) = ap place_of d.whole ∙ sym (place_first (d.front ++ other) (d.front ++ rest) (first-append d.front other rest same)) in
+                    subst (λ (place : Place). p place (d.front ++ other) ≡ Done a other) e2 (d.local other same);
+              };
+          fail = λ ts rest e.
+              let d = (lp (place_of ts)).exact.fail ts rest e in
+              record {
+                front = d.front;
+                whole = d.whole;
+                local = λ other same.
+                    let e2 : place_of ts ≡ place_of (d.front ++ other) = ap place_of d.whole ∙ sym (place_first (d.front ++ other) (d.front ++ rest) (first-append d.front other rest same)) in
+                    subst (λ (place : Place). p place (d.front ++ other) ≡ Fail other) e2 (d.local other same);
+                viable = here_viable V d.front rest (subst (λ (place : Place). (d.front ≡ []) ⊎ Viable (V place) d.front) (ap place_of d.whole) d.viable);
+              };
+          complete = λ front a rest r g.
+              let e1 : place_of front ≡ place_of (front ++ rest) = sym (place_front s.enter front rest (entered s front ((lp (place_of front)).begins front a r) nonempty)) in
+              subst (λ (place : Place). p place (front ++ rest) ≡ Done a rest) e1 ((lp (place_of front)).exact.complete front a rest r g);
+        };
+        begins = λ front a r. (lp (place_of front)).begins front a r;
+        sub = λ front a r. (lp (place_of front)).sub front a r;
+        some = λ h. let i = (lp origin).some h in record { text = i.text; tree = i.tree; rule = subst (λ (place : Place). V place i.text i.tree) (sym i.at) i.rule; at = i.at };
+        plain = λ front a r. (lp (place_of front)).plain front a r;
+        agree = λ ts lt. (lp (place_of ts)).agree ts lt;
       };
-      begins = λ front a r. (lp (place_of front)).begins front a r;
-      sub = λ front a r. (lp (place_of front)).sub front a r;
-      some = λ h. let i = (lp origin).some h in record { text = i.text; tree = i.tree; rule = subst (λ (place : Place). V place i.text i.tree) (sym i.at) i.rule; at = i.at };
-      plain = λ front a r. (lp (place_of front)).plain front a r;
-      agree = λ ts lt. (lp (place_of ts)).agree ts lt;
-    } }
+}
 
 -- ---- behind a token, where there is one token less
 
@@ -356,15 +366,17 @@ behind_token {A} {B} n value {q} {q'} hq ts lt =
 
 pub law_behind_token : {A : Type 0} {n : ℕ} {R V : Rule A} {p p' : Parser A} {s : Shape} (sorts : List Sort) → last_free sorts ≡ true → (x : Token) → is_in sorts x ≡ true → x.place ≡ origin → Lawful n R V p p' s → Lawful (suc n) (Behind sorts R) (Behind sorts V) (behind sorts p) (behind sorts p') (seq_shape (one_shape sorts) s)
 unfolding behind token
-law_behind_token {n = n} {p = p} {p' = p'} sorts free x e at l = record { law = λ ok.
-    let flat = law_made last (law_seq (law_the sorts free x e at) l) in
-    let done = flat.law ok in
-    let lp = l.law (and_left _ _ (and_right true _ ok)) in
-    record {
-      exact = done.exact;
-      begins = done.begins;
-      sub = done.sub;
-      some = done.some;
-      plain = done.plain;
-      agree = agree_via (suc n) last (behind_token n (the sorts) lp.agree);
-    } }
+law_behind_token {n = n} {p = p} {p' = p'} sorts free x e at l = record {
+  law = λ ok.
+      let flat = law_made last (law_seq (law_the sorts free x e at) l) in
+      let done = flat.law ok in
+      let lp = l.law (and_left _ _ (and_right true _ ok)) in
+      record {
+        exact = done.exact;
+        begins = done.begins;
+        sub = done.sub;
+        some = done.some;
+        plain = done.plain;
+        agree = agree_via (suc n) last (behind_token n (the sorts) lp.agree);
+      };
+}

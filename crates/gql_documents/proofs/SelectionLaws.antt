@@ -91,26 +91,67 @@ some_set =
     record {
       text = sample kind.BraceOpen [] ∷ sample kind.Name [] ∷ sample kind.BraceClose [] ∷ [];
       tree = set_of origin (field_selection (field_of (some_name, (None, ([], ([], None))))) ∷ []);
-      rule = record { of = field_selection (field_of (some_name, (None, ([], ([], None))))) ∷ []; is = refl; rule = record {
-        of = (tt, field_selection (field_of (some_name, (None, ([], ([], None))))) ∷ []); is = refl; rule = record {
-          before = sample kind.BraceOpen [] ∷ []; after = sample kind.Name [] ∷ sample kind.BraceClose [] ∷ []; whole = refl;
-          first = (sample kind.BraceOpen [], refl, refl);
-          second = record { of = (field_selection (field_of (some_name, (None, ([], ([], None))))) ∷ [], tt); is = refl; rule = record {
-            before = sample kind.Name [] ∷ []; after = sample kind.BraceClose [] ∷ []; whole = refl;
-            first = record { of = (field_selection (field_of (some_name, (None, ([], ([], None))))), []); is = refl; rule = record {
-              before = sample kind.Name [] ∷ []; after = []; whole = refl;
-              first = inr (record { of = field_of (some_name, (None, ([], ([], None)))); is = refl; rule = record { of = (some_name, (None, ([], ([], None)))); is = refl; rule = record {
-                before = sample kind.Name [] ∷ []; after = []; whole = refl;
-                first = (sample kind.Name [], refl, refl);
-                second = record { before = []; after = []; whole = refl; first = refl;
-                  second = record { before = []; after = []; whole = refl; first = record { of = None; is = refl; rule = refl };
-                    second = record { before = []; after = []; whole = refl; first = refl; second = refl } } };
-              } } });
-              second = refl;
-            } };
-            second = (sample kind.BraceClose [], refl, refl);
-          } };
-        } } };
+      rule = record {
+        of = field_selection (field_of (some_name, (None, ([], ([], None))))) ∷ [];
+        is = refl;
+        rule = record {
+          of = (tt, field_selection (field_of (some_name, (None, ([], ([], None))))) ∷ []);
+          is = refl;
+          rule = record {
+            before = sample kind.BraceOpen [] ∷ [];
+            after = sample kind.Name [] ∷ sample kind.BraceClose [] ∷ [];
+            whole = refl;
+            first = (sample kind.BraceOpen [], refl, refl);
+            second = record {
+              of = (field_selection (field_of (some_name, (None, ([], ([], None))))) ∷ [], tt);
+              is = refl;
+              rule = record {
+                before = sample kind.Name [] ∷ [];
+                after = sample kind.BraceClose [] ∷ [];
+                whole = refl;
+                first = record {
+                  of = (field_selection (field_of (some_name, (None, ([], ([], None))))), []);
+                  is = refl;
+                  rule = record {
+                    before = sample kind.Name [] ∷ [];
+                    after = [];
+                    whole = refl;
+                    first = inr (record {
+                      of = field_of (some_name, (None, ([], ([], None))));
+                      is = refl;
+                      rule = record {
+                        of = (some_name, (None, ([], ([], None))));
+                        is = refl;
+                        rule = record {
+                          before = sample kind.Name [] ∷ [];
+                          after = [];
+                          whole = refl;
+                          first = (sample kind.Name [], refl, refl);
+                          second = record {
+                            before = [];
+                            after = [];
+                            whole = refl;
+                            first = refl;
+                            second = record {
+                              before = [];
+                              after = [];
+                              whole = refl;
+                              first = record { of = None; is = refl; rule = refl };
+                              second = record { before = []; after = []; whole = refl; first = refl; second = refl };
+                            };
+                          };
+                        };
+                      };
+                    });
+                    second = refl;
+                  };
+                };
+                second = (sample kind.BraceClose [], refl, refl);
+              };
+            };
+          };
+        };
+      };
       at = refl;
     }
 

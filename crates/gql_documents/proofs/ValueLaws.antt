@@ -60,13 +60,17 @@ some_type =
     record {
       text = sample kind.Name [] ∷ [];
       tree = type_of (of_name (record { place = origin; text = [] }), false);
-      rule = record { of = (of_name (record { place = origin; text = [] }), false); is = refl; rule = record {
-        before = sample kind.Name [] ∷ [];
-        after = [];
-        whole = refl;
-        first = inl (record { of = record { place = origin; text = [] }; is = refl; rule = (sample kind.Name [], refl, refl) });
-        second = record { of = None; is = refl; rule = refl };
-      } };
+      rule = record {
+        of = (of_name (record { place = origin; text = [] }), false);
+        is = refl;
+        rule = record {
+          before = sample kind.Name [] ∷ [];
+          after = [];
+          whole = refl;
+          first = inl (record { of = record { place = origin; text = [] }; is = refl; rule = (sample kind.Name [], refl, refl) });
+          second = record { of = None; is = refl; rule = refl };
+        };
+      };
       at = refl;
     }
 

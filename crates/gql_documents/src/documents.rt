@@ -32,10 +32,7 @@ fn definition(alloc: Global, tokens: &mut Cursor<'_>) -> Result<Definition, Pars
 }
 
 // Definition*
-fn definitions(
-    alloc: Global,
-    tokens: &mut Cursor<'_>,
-) -> Result<Items<Definition>, ParseError>
+fn definitions(alloc: Global, tokens: &mut Cursor<'_>) -> Result<Items<Definition>, ParseError>
     ensures reads { Reads (spec.definitions tokens.old) result tokens.new }
     ensures shorter { OnOk result (length tokens.new ≤ length tokens.old) }
 {

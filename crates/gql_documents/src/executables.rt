@@ -18,10 +18,7 @@ use text_types::Items;
 
 // Default? where Default = "=" ConstValue
 #[tactic(auto, unfolding(crate::specs::Executables::default_if_any, crate::specs::Parsing::behind, crate::specs::Parsing::opt, crate::specs::Parsing::via, crate::specs::Parsing::seq))]
-pub fn default_if_any(
-    alloc: Global,
-    tokens: &mut Cursor<'_>,
-) -> Result<Option<Literal>, ParseError>
+pub fn default_if_any(alloc: Global, tokens: &mut Cursor<'_>) -> Result<Option<Literal>, ParseError>
     ensures reads { Reads (spec.default_if_any tokens.old) result tokens.new }
     ensures shorter { OnOk result (length tokens.new ≤ length tokens.old) }
 {
@@ -120,11 +117,7 @@ fn name_if_any(alloc: Global, tokens: &mut Cursor<'_>) -> Result<Option<Name>, P
 
 // Set
 #[tactic(auto, unfolding(crate::specs::Executables::short, crate::specs::Parsing::via))]
-fn short(
-    alloc: Global,
-    tokens: &mut Cursor<'_>,
-    place: Place,
-) -> Result<Operation, ParseError>
+fn short(alloc: Global, tokens: &mut Cursor<'_>, place: Place) -> Result<Operation, ParseError>
     ensures reads { Reads (spec.short place tokens.old) result tokens.new }
     ensures shorter { OnOk result (length tokens.new < length tokens.old) }
 {
@@ -141,11 +134,7 @@ fn short(
 
 // OperationType Name? Variables? Directives Set
 #[tactic(auto, unfolding(crate::specs::Executables::long, crate::specs::Parsing::via, crate::specs::Parsing::seq))]
-fn long(
-    alloc: Global,
-    tokens: &mut Cursor<'_>,
-    place: Place,
-) -> Result<Operation, ParseError>
+fn long(alloc: Global, tokens: &mut Cursor<'_>, place: Place) -> Result<Operation, ParseError>
     ensures reads { Reads (spec.long place tokens.old) result tokens.new }
     ensures shorter { OnOk result (length tokens.new < length tokens.old) }
 {

@@ -15,11 +15,7 @@ use text_types::Items;
 // Value = Variable | PlainValue | ListValue | ObjectValue
 #[cycle(values)]
 #[tactic(auto, using(crate::proofs::ValueLaws::value_again), unfolding(crate::specs::Literals::value_over, crate::specs::Parsing::here, crate::specs::Parsing::via))]
-pub fn value(
-    alloc: Global,
-    tokens: &mut Cursor<'_>,
-    constant: bool,
-) -> Result<Literal, ParseError>
+pub fn value(alloc: Global, tokens: &mut Cursor<'_>, constant: bool) -> Result<Literal, ParseError>
     ensures reads { Reads (spec.value constant tokens.old) result tokens.new }
     ensures shorter { OnOk result (length tokens.new < length tokens.old) }
 {
@@ -71,11 +67,7 @@ fn variable(
 // ListValue = "[" Value* "]"
 #[cycle(values)]
 #[tactic(auto, unfolding(crate::specs::Literals::list, crate::specs::Parsing::between, crate::specs::Parsing::behind, crate::specs::Parsing::before, crate::specs::Parsing::via, crate::specs::Parsing::seq))]
-fn list(
-    alloc: Global,
-    tokens: &mut Cursor<'_>,
-    constant: bool,
-) -> Result<LiteralValue, ParseError>
+fn list(alloc: Global, tokens: &mut Cursor<'_>, constant: bool) -> Result<LiteralValue, ParseError>
     ensures reads { Reads (spec.list (spec.value constant) tokens.old) result tokens.new }
     ensures shorter { OnOk result (length tokens.new < length tokens.old) }
 {

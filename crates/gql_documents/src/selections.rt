@@ -21,11 +21,7 @@ use text_types::Items;
 
 // Argument = Name ":" Value
 #[tactic(auto, unfolding(crate::specs::Selections::argument, crate::specs::Parsing::behind, crate::specs::Parsing::via, crate::specs::Parsing::seq))]
-fn argument(
-    alloc: Global,
-    tokens: &mut Cursor<'_>,
-    constant: bool,
-) -> Result<Argument, ParseError>
+fn argument(alloc: Global, tokens: &mut Cursor<'_>, constant: bool) -> Result<Argument, ParseError>
     ensures reads { Reads (spec.argument constant tokens.old) result tokens.new }
     ensures shorter { OnOk result (length tokens.new < length tokens.old) }
 {
@@ -199,11 +195,7 @@ fn condition(alloc: Global, tokens: &mut Cursor<'_>) -> Result<Option<Name>, Par
 
 // Spread = "..." Name-not-on Directives, behind its `...`
 #[tactic(auto, unfolding(crate::specs::Selections::spread, crate::specs::Parsing::via, crate::specs::Parsing::seq))]
-fn spread(
-    alloc: Global,
-    tokens: &mut Cursor<'_>,
-    place: Place,
-) -> Result<Selection, ParseError>
+fn spread(alloc: Global, tokens: &mut Cursor<'_>, place: Place) -> Result<Selection, ParseError>
     ensures reads { Reads (spec.spread place tokens.old) result tokens.new }
     ensures shorter { OnOk result (length tokens.new < length tokens.old) }
 {
@@ -219,11 +211,7 @@ fn spread(
 // Inline = "..." ("on" Name)? Directives Set, behind its `...`
 #[cycle(sets)]
 #[tactic(auto, unfolding(crate::specs::Selections::inline, crate::specs::Parsing::via, crate::specs::Parsing::seq))]
-fn inline(
-    alloc: Global,
-    tokens: &mut Cursor<'_>,
-    place: Place,
-) -> Result<Selection, ParseError>
+fn inline(alloc: Global, tokens: &mut Cursor<'_>, place: Place) -> Result<Selection, ParseError>
     ensures reads { Reads (spec.inline spec.set place tokens.old) result tokens.new }
     ensures shorter { OnOk result (length tokens.new < length tokens.old) }
 {
@@ -287,10 +275,7 @@ fn more_selections(
 // Set = "{" Selection+ "}"
 #[cycle(sets)]
 #[tactic(auto, using(crate::proofs::SelectionLaws::set_again), unfolding(crate::specs::Selections::set_over, crate::specs::Parsing::here, crate::specs::Parsing::between, crate::specs::Parsing::behind, crate::specs::Parsing::before, crate::specs::Parsing::more, crate::specs::Parsing::via, crate::specs::Parsing::seq))]
-pub fn selection_set(
-    alloc: Global,
-    tokens: &mut Cursor<'_>,
-) -> Result<SelectionSet, ParseError>
+pub fn selection_set(alloc: Global, tokens: &mut Cursor<'_>) -> Result<SelectionSet, ParseError>
     ensures reads { Reads (spec.set tokens.old) result tokens.new }
     ensures shorter { OnOk result (length tokens.new < length tokens.old) }
 {

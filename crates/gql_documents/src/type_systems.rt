@@ -134,10 +134,7 @@ fn scalar(alloc: Global, tokens: &mut Cursor<'_>) -> Result<TypeSystemForm, Pars
     tokens.word(b"scalar")?;
     let name = tokens.name(alloc)?;
     let directives = directives(alloc, tokens, true)?;
-    Ok(TypeSystemForm::Scalar(ScalarDefinition {
-        name,
-        directives,
-    }))
+    Ok(TypeSystemForm::Scalar(ScalarDefinition { name, directives }))
 }
 
 // InputDef = Desc? Name ":" Type Default? ConstDirectives
@@ -194,7 +191,10 @@ fn inputs(alloc: Global, tokens: &mut Cursor<'_>) -> Result<Items<InputDefinitio
 
 // Inputs?
 #[tactic(auto, unfolding(crate::specs::TypeSystems::inputs_if_any, crate::specs::Parsing::perhaps, crate::specs::Parsing::opt, crate::specs::Parsing::via))]
-fn inputs_if_any(alloc: Global, tokens: &mut Cursor<'_>) -> Result<Items<InputDefinition>, ParseError>
+fn inputs_if_any(
+    alloc: Global,
+    tokens: &mut Cursor<'_>,
+) -> Result<Items<InputDefinition>, ParseError>
     ensures reads { Reads (spec.inputs_if_any tokens.old) result tokens.new }
     ensures shorter { OnOk result (length tokens.new ≤ length tokens.old) }
 {
@@ -243,7 +243,10 @@ fn more_fields(
 
 // Fields = "{" (Desc? Name Inputs? ":" Type ConstDirectives)+ "}"
 #[tactic(auto, unfolding(crate::specs::TypeSystems::field_definitions, crate::specs::Parsing::between, crate::specs::Parsing::behind, crate::specs::Parsing::before, crate::specs::Parsing::more, crate::specs::Parsing::via, crate::specs::Parsing::seq))]
-fn field_definitions(alloc: Global, tokens: &mut Cursor<'_>) -> Result<Items<FieldDefinition>, ParseError>
+fn field_definitions(
+    alloc: Global,
+    tokens: &mut Cursor<'_>,
+) -> Result<Items<FieldDefinition>, ParseError>
     ensures reads { Reads (spec.field_definitions tokens.old) result tokens.new }
     ensures shorter { OnOk result (length tokens.new < length tokens.old) }
 {
@@ -258,7 +261,10 @@ fn field_definitions(alloc: Global, tokens: &mut Cursor<'_>) -> Result<Items<Fie
 
 // Fields?
 #[tactic(auto, unfolding(crate::specs::TypeSystems::field_definitions_if_any, crate::specs::Parsing::perhaps, crate::specs::Parsing::opt, crate::specs::Parsing::via))]
-fn field_definitions_if_any(alloc: Global, tokens: &mut Cursor<'_>) -> Result<Items<FieldDefinition>, ParseError>
+fn field_definitions_if_any(
+    alloc: Global,
+    tokens: &mut Cursor<'_>,
+) -> Result<Items<FieldDefinition>, ParseError>
     ensures reads { Reads (spec.field_definitions_if_any tokens.old) result tokens.new }
     ensures shorter { OnOk result (length tokens.new ≤ length tokens.old) }
 {
@@ -401,7 +407,10 @@ fn more_enum_values(
 
 // "{" EnumValue+ "}"
 #[tactic(auto, unfolding(crate::specs::TypeSystems::enum_values, crate::specs::Parsing::between, crate::specs::Parsing::behind, crate::specs::Parsing::before, crate::specs::Parsing::more, crate::specs::Parsing::via, crate::specs::Parsing::seq))]
-fn enum_values(alloc: Global, tokens: &mut Cursor<'_>) -> Result<Items<EnumValueDefinition>, ParseError>
+fn enum_values(
+    alloc: Global,
+    tokens: &mut Cursor<'_>,
+) -> Result<Items<EnumValueDefinition>, ParseError>
     ensures reads { Reads (spec.enum_values tokens.old) result tokens.new }
     ensures shorter { OnOk result (length tokens.new < length tokens.old) }
 {
@@ -416,7 +425,10 @@ fn enum_values(alloc: Global, tokens: &mut Cursor<'_>) -> Result<Items<EnumValue
 
 // ("{" EnumValue+ "}")?
 #[tactic(auto, unfolding(crate::specs::TypeSystems::enum_values_if_any, crate::specs::Parsing::perhaps, crate::specs::Parsing::opt, crate::specs::Parsing::via))]
-fn enum_values_if_any(alloc: Global, tokens: &mut Cursor<'_>) -> Result<Items<EnumValueDefinition>, ParseError>
+fn enum_values_if_any(
+    alloc: Global,
+    tokens: &mut Cursor<'_>,
+) -> Result<Items<EnumValueDefinition>, ParseError>
     ensures reads { Reads (spec.enum_values_if_any tokens.old) result tokens.new }
     ensures shorter { OnOk result (length tokens.new ≤ length tokens.old) }
 {
@@ -445,7 +457,10 @@ fn enumeration(alloc: Global, tokens: &mut Cursor<'_>) -> Result<TypeSystemForm,
 
 // "{" InputDef+ "}"
 #[tactic(auto, unfolding(crate::specs::TypeSystems::input_fields, crate::specs::Parsing::between, crate::specs::Parsing::behind, crate::specs::Parsing::before, crate::specs::Parsing::more, crate::specs::Parsing::via, crate::specs::Parsing::seq))]
-fn input_fields(alloc: Global, tokens: &mut Cursor<'_>) -> Result<Items<InputDefinition>, ParseError>
+fn input_fields(
+    alloc: Global,
+    tokens: &mut Cursor<'_>,
+) -> Result<Items<InputDefinition>, ParseError>
     ensures reads { Reads (spec.input_fields tokens.old) result tokens.new }
     ensures shorter { OnOk result (length tokens.new < length tokens.old) }
 {
@@ -460,7 +475,10 @@ fn input_fields(alloc: Global, tokens: &mut Cursor<'_>) -> Result<Items<InputDef
 
 // ("{" InputDef+ "}")?
 #[tactic(auto, unfolding(crate::specs::TypeSystems::input_fields_if_any, crate::specs::Parsing::perhaps, crate::specs::Parsing::opt, crate::specs::Parsing::via))]
-fn input_fields_if_any(alloc: Global, tokens: &mut Cursor<'_>) -> Result<Items<InputDefinition>, ParseError>
+fn input_fields_if_any(
+    alloc: Global,
+    tokens: &mut Cursor<'_>,
+) -> Result<Items<InputDefinition>, ParseError>
     ensures reads { Reads (spec.input_fields_if_any tokens.old) result tokens.new }
     ensures shorter { OnOk result (length tokens.new ≤ length tokens.old) }
 {
@@ -499,7 +517,10 @@ fn locations(alloc: Global, tokens: &mut Cursor<'_>) -> Result<Items<Name>, Pars
 
 // Directive = "directive" "@" Name Inputs? "repeatable"? "on" "|"? Name ("|" Name)*
 #[tactic(auto, unfolding(crate::specs::TypeSystems::directive_definition, crate::specs::Parsing::behind, crate::specs::Parsing::via, crate::specs::Parsing::seq))]
-fn directive_definition(alloc: Global, tokens: &mut Cursor<'_>) -> Result<TypeSystemForm, ParseError>
+fn directive_definition(
+    alloc: Global,
+    tokens: &mut Cursor<'_>,
+) -> Result<TypeSystemForm, ParseError>
     ensures reads { Reads (spec.directive_definition tokens.old) result tokens.new }
     ensures shorter { OnOk result (length tokens.new < length tokens.old) }
 {

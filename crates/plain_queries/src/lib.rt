@@ -10,8 +10,6 @@ mod printer;
 mod reading;
 mod selection;
 
-
-
 pub use printer::sent_text;
 pub use reading::plain_query;
 pub use selection::{Selection, SelectionSet};

@@ -18,10 +18,7 @@ pub fn plain_query(alloc: Global, document: &Document) -> Result<Option<Selectio
     }
 }
 
-fn plain_definition(
-    alloc: Global,
-    definition: &Definition,
-) -> Result<Option<SelectionSet>, Memory>
+fn plain_definition(alloc: Global, definition: &Definition) -> Result<Option<SelectionSet>, Memory>
     ensures { IfOk result (λ fields. fields ≡ spec.plain_definition definition.now) }
 {
     match definition {
@@ -43,10 +40,7 @@ fn is_plain(operation: &Operation) -> bool
 
 /// The fields of a selection set, where each is plain and no name stands twice.
 #[cycle(plain)]
-fn plain_set(
-    alloc: Global,
-    set: &gql_model::SelectionSet,
-) -> Result<Option<SelectionSet>, Memory>
+fn plain_set(alloc: Global, set: &gql_model::SelectionSet) -> Result<Option<SelectionSet>, Memory>
     ensures { IfOk result (λ fields. fields ≡ spec.plain_set set.now) }
 {
     let mut fields = Named::new(alloc);
