@@ -9,8 +9,8 @@ ghost use Rattle.exchange_line.specs.Written.{Appends, typed_object_written};
 
 use crate::object_key::key_of_object;
 use gate_machine::{Cell, EntityKey, Owner, Write};
-use plain_queries::{Selection, SelectionSet};
 use gql_value::Value;
+use plain_queries::{Selection, SelectionSet};
 use serde_json::Value as Json;
 use std::alloc::Global;
 use text_types::{Items, Memory, Text};

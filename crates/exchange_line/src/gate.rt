@@ -3,6 +3,7 @@
 ghost use Rattle.std.specs.Prelude.{◌≡◌, ◌++◌, ◌-◌, ◌==◌, ◌∷◌, [], ℕ, List, OnOk, Some, slice_set, filter, find, not};
 ghost use Rattle.std.specs.Option.{option_copied};
 ghost use Rattle.serde_json.specs.View.{view};
+ghost use Rattle.plain_queries.specs.Plain.{plain_query_of};
 ghost use Rattle.gate_machine.specs.Machine as machine;
 
 use crate::answer::write_body;
@@ -10,11 +11,15 @@ use crate::frame::{Frame, frame_of, read_json};
 use crate::line::{Cause, push_fetch, push_refused, push_reply};
 use crate::reading::read_query;
 use gate_machine::{OpenOperation, Write};
-use plain_queries::{Document, SyntaxError, parse_document, sent_text};
+use gql_documents::{Document, SyntaxError, nesting, parse_document};
 use gql_value::Value;
+use plain_queries::{SelectionSet, plain_query, sent_text};
 use std::alloc::Global;
 use std::marker::Model;
 use text_types::{Bytes, Items, Memory};
+
+/// Brackets of a query nest at most so deep.
+const DEEPEST: u64 = 64;
 
 /// The operations that wait for their responses, and the present results of all that were sent.
 #[derive(Drop)]
@@ -101,10 +106,51 @@ impl Gate {
         if self.is_waiting(id) {
             return push_refused(number, Cause::NotAFrame, out);
         }
+        self.dispatch_text(alloc, number, id, query, out)
+    }
+
+    /// Reads the text of a query whose id doesn't wait.
+    fn dispatch_text(
+        &mut self,
+        alloc: Global,
+        number: u64,
+        id: u64,
+        query: &str,
+        out: &mut Bytes,
+    ) -> Result<(), Memory>
+        ensures text { OnOk result
+            (out.new ≡ out.old ++ (machine.text_dispatched number id query.now self.old).text) }
+        ensures state { OnOk result
+            (self.new ≡ (machine.text_dispatched number id query.now self.old).state) }
+    {
+        if nesting(query.as_bytes()) > DEEPEST {
+            return push_refused(number, Cause::NestsTooDeep, out);
+        }
         match parse_document(alloc, query.as_bytes()) {
-            Ok(document) => self.answer_or_send(alloc, id, document, out),
+            Ok(document) => self.dispatch_document(alloc, number, id, &document, out),
             Err(SyntaxError::Memory) => Err(Memory),
-            Err(SyntaxError::Syntax { .. }) => push_refused(number, Cause::NotAQuery, out),
+            Err(SyntaxError::Syntax { row, column }) => {
+                push_refused(number, Cause::NotADocument { row, column }, out)
+            }
+        }
+    }
+
+    fn dispatch_document(
+        &mut self,
+        alloc: Global,
+        number: u64,
+        id: u64,
+        document: &Document,
+        out: &mut Bytes,
+    ) -> Result<(), Memory>
+        ensures text { OnOk result (out.new ≡ out.old
+            ++ (machine.query_dispatched number id self.old (plain_query_of document.now)).text) }
+        ensures state { OnOk result (self.new
+            ≡ (machine.query_dispatched number id self.old (plain_query_of document.now)).state) }
+    {
+        match plain_query(alloc, document)? {
+            Some(query) => self.answer_or_send(alloc, id, query, out),
+            None => push_refused(number, Cause::NotAPlainQuery, out),
         }
     }
 
@@ -118,16 +164,16 @@ impl Gate {
         &mut self,
         alloc: Global,
         id: u64,
-        document: Document,
+        query: SelectionSet,
         out: &mut Bytes,
     ) -> Result<(), Memory>
         ensures text { OnOk result (out.new
-            ≡ out.old ++ (machine.query_taken id document.selection self.old).text) }
-        ensures state { OnOk result (self.new ≡ (machine.query_taken id document.selection self.old).state) }
+            ≡ out.old ++ (machine.query_taken id query self.old).text) }
+        ensures state { OnOk result (self.new ≡ (machine.query_taken id query self.old).state) }
     {
-        match read_query(alloc, self.history.as_slice(), &document.selection)? {
+        match read_query(alloc, self.history.as_slice(), &query)? {
             Some(answer) => push_reply(id, &answer, out),
-            None => self.send(alloc, id, document, out),
+            None => self.send(alloc, id, query, out),
         }
     }
 
@@ -135,21 +181,17 @@ impl Gate {
         &mut self,
         alloc: Global,
         id: u64,
-        document: Document,
+        query: SelectionSet,
         out: &mut Bytes,
     ) -> Result<(), Memory>
         ensures text { OnOk result
-            (out.new ≡ out.old ++ (machine.sent id document.selection self.old).text) }
-        ensures state { OnOk result (self.new ≡ (machine.sent id document.selection self.old).state) }
+            (out.new ≡ out.old ++ (machine.sent id query self.old).text) }
+        ensures state { OnOk result (self.new ≡ (machine.sent id query self.old).state) }
     {
         let fetch = self.history.len() as u64 + 1;
-        push_fetch(fetch, &sent_text(alloc, &document)?, out)?;
+        push_fetch(fetch, &sent_text(alloc, &query)?, out)?;
         self.history.push(Items::new(alloc))?;
-        self.waiting.push(OpenOperation {
-            id,
-            fetch,
-            query: document.selection,
-        })?;
+        self.waiting.push(OpenOperation { id, fetch, query })?;
         Ok(())
     }
 

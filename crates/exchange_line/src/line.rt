@@ -1,7 +1,7 @@
 //! The lines that the gate writes.
 
 ghost use Rattle.std.specs.Prelude.{◌≡◌, ◌++◌, OnOk, List, ℕ, decimal};
-ghost use Rattle.gate_machine.specs.Outputs.{reply_line, fetch_line, refused_line};
+ghost use Rattle.gate_machine.specs.Outputs.{reply_line, fetch_line, refused_line, not_a_document};
 ghost use Rattle.exchange_line.specs.Causes.{cause_text};
 ghost use Rattle.gql_value.specs.Text.{quoted};
 
@@ -13,7 +13,10 @@ use text_types::{Bytes, Memory, Text};
 pub(crate) enum Cause {
     NotJson,
     NotAFrame,
-    NotAQuery,
+    NestsTooDeep,
+    /// The query is no document, by the place of its fault.
+    NotADocument { row: u64, column: u64 },
+    NotAPlainQuery,
 }
 
 fn push_number(number: u64, out: &mut Bytes) -> Result<(), Memory>
@@ -52,16 +55,27 @@ pub(crate) fn push_refused(line: u64, cause: Cause, out: &mut Bytes) -> Result<(
     out.append(b"{\"out\":\"refused\",\"line\":")?;
     push_number(line, out)?;
     out.append(b",\"code\":")?;
-    out.append(cause_bytes(cause))?;
+    push_cause(cause, out)?;
     out.append(b"}\n")
 }
 
-fn cause_bytes(cause: Cause) -> &'static [u8]
-    ensures { result.now ≡ cause_text cause }
+fn push_cause(cause: Cause, out: &mut Bytes) -> Result<(), Memory>
+    ensures { OnOk result (out.new ≡ out.old ++ cause_text cause) }
 {
     match cause {
-        Cause::NotJson => b"\"E2\"",
-        Cause::NotAFrame => b"\"E3\",\"member\":\"do\"",
-        Cause::NotAQuery => b"\"E6\",\"row\":1,\"column\":1",
+        Cause::NotJson => out.append(b"\"E2\""),
+        Cause::NotAFrame => out.append(b"\"E3\",\"member\":\"do\""),
+        Cause::NestsTooDeep => out.append(b"\"E14\""),
+        Cause::NotADocument { row, column } => push_place(row, column, out),
+        Cause::NotAPlainQuery => out.append(b"\"E3\",\"member\":\"query\""),
     }
+}
+
+fn push_place(row: u64, column: u64, out: &mut Bytes) -> Result<(), Memory>
+    ensures { OnOk result (out.new ≡ out.old ++ not_a_document row column) }
+{
+    out.append(b"\"E6\",\"row\":")?;
+    push_number(row, out)?;
+    out.append(b",\"column\":")?;
+    push_number(column, out)
 }

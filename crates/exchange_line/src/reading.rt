@@ -6,8 +6,8 @@ ghost use Rattle.gate_machine.specs.Readings.{field_reading, leaf_read, members_
 
 use crate::history::find_cell;
 use gate_machine::{Cell, EntityKey, Owner, Write};
-use plain_queries::{Selection, SelectionSet};
 use gql_value::{Members, Value};
+use plain_queries::{Selection, SelectionSet};
 use std::alloc::Global;
 use text_types::{Items, Memory, Named, Text};
 

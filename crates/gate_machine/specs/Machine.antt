@@ -1,18 +1,23 @@
 -- The machine: its state, and what one line of input does. A response's writes replace its own
 -- operation's present result, wherever that stands, so answers may come in any order.
-use Rattle.std.specs.Prelude.{ℕ, ◌+◌, ◌-◌, ◌==◌, Bool, not, if◌then◌else◌, List, [], ◌∷◌, ◌++◌, length, filter, find, slice_set, Option, Some, None, unwrap_or}
+use Rattle.std.specs.Prelude.{ℕ, ◌+◌, ◌-◌, ◌==◌, Bool, not, if◌then◌else◌, List, [], ◌∷◌, ◌++◌, length, filter, find, slice_set, Option, Some, None, unwrap_or, Result, Ok, Err, nat_lt}
 use Rattle.std.specs.List.{list_any}
 use Rattle.serde_json.specs.Data.{Data}
 use Rattle.gql_value.specs.declared.value.Value.{Value}
+use Rattle.gql_tokens.specs.declared.token.Place.{Place}
+use Rattle.gql_tokens.specs.Nesting.{nesting_of}
+use Rattle.gql_model.specs.declared.document.Document.{Document}
+use Rattle.gql_documents.specs.Documents.{document_of}
 use Rattle.plain_queries.specs.declared.selection.Selection.{Selection}
-use Rattle.plain_queries.specs.Queries.{query_of, sent_text_of}
+use Rattle.plain_queries.specs.Plain.{plain_query_of}
+use Rattle.plain_queries.specs.Sent.{sent_text_of}
 use Rattle.gate_machine.specs.declared.cell.Write.{Write}
 use Rattle.gate_machine.specs.declared.operation.OpenOperation.{OpenOperation}
 use Rattle.gate_machine.specs.Cells.{History, flattened}
 use Rattle.gate_machine.specs.Readings.{query_reading, null_value}
 use Rattle.gate_machine.specs.Answers.{body_written}
 use Rattle.gate_machine.specs.Frames.{Frame, dispatch, response, unknown, json_of, frame_of}
-use Rattle.gate_machine.specs.Outputs.{reply_line, fetch_line, refused_line, not_json, not_a_frame, not_a_query}
+use Rattle.gate_machine.specs.Outputs.{reply_line, fetch_line, refused_line, not_json, not_a_frame, nests_too_deep, not_a_document, not_a_plain_query}
 
 -- the operations that wait for their responses, in order of sending, and the present results
 pub record GatewayState : Type 0 where
@@ -49,16 +54,27 @@ answered_or_sent id query state None = sent id query state
 abbrev pub query_taken : ℕ → List (List ℕ × Selection) → GatewayState → Step
 query_taken id query state = answered_or_sent id query state (query_reading (flattened state.history) query)
 
+-- a document that isn't a plain query isn't taken yet
 abbrev pub query_dispatched : ℕ → ℕ → GatewayState → Option (List (List ℕ × Selection)) → Step
-query_dispatched line id state None = refused line not_a_query state
+query_dispatched line id state None = refused line not_a_plain_query state
 query_dispatched line id state (Some query) = query_taken id query state
+
+-- a text that is no document is refused with the place of its fault
+abbrev pub document_dispatched : ℕ → ℕ → GatewayState → Result Document Place → Step
+document_dispatched line id state (Err place) = refused line (not_a_document place.row place.column) state
+document_dispatched line id state (Ok document) = query_dispatched line id state (plain_query_of document)
+
+-- a text whose brackets nest too deep isn't read
+abbrev pub text_dispatched : ℕ → ℕ → List ℕ → GatewayState → Step
+text_dispatched line id text state =
+    if nat_lt 64 (nesting_of text) then refused line nests_too_deep state else document_dispatched line id state (document_of text)
 
 -- an operation still waits under this id
 abbrev pub is_waiting : ℕ → GatewayState → Bool
 is_waiting id state = list_any (λ operation. operation.id == id) state.waiting
 
 abbrev pub dispatched : ℕ → ℕ → List ℕ → GatewayState → Step
-dispatched line id query state = if is_waiting id state then refused line not_a_frame state else query_dispatched line id state (query_of query)
+dispatched line id query state = if is_waiting id state then refused line not_a_frame state else text_dispatched line id query state
 
 -- The writes become the present result of their operation, wherever that stands.
 abbrev pub completed_history : OpenOperation → List Write → History → History

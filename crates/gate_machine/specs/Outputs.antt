@@ -22,6 +22,14 @@ not_json = codes "\"E2\""
 abbrev pub not_a_frame : List ℕ
 not_a_frame = codes "\"E3\",\"member\":\"do\""
 
--- the query isn't of the form
-abbrev pub not_a_query : List ℕ
-not_a_query = codes "\"E6\",\"row\":1,\"column\":1"
+-- the query's brackets nest more than 64 deep
+abbrev pub nests_too_deep : List ℕ
+nests_too_deep = codes "\"E14\""
+
+-- the query is no document, by the place of its fault
+abbrev pub not_a_document : ℕ → ℕ → List ℕ
+not_a_document row column = codes "\"E6\",\"row\":" ++ decimal row ++ codes ",\"column\":" ++ decimal column
+
+-- the document isn't a plain query
+abbrev pub not_a_plain_query : List ℕ
+not_a_plain_query = codes "\"E3\",\"member\":\"query\""

@@ -8,6 +8,8 @@
 //! operations and fragments in `executables`, type system definitions in `type_systems`. Each does what
 //! the parser of that production in `specs/` does; `proofs/` show that these parsers are those of the
 //! grammar.
+//!
+//! The tokens of a text and how deep its brackets nest are handed on from `gql_tokens`.
 #![tactic(auto)]
 
 mod cursor;
@@ -22,3 +24,5 @@ mod tests;
 mod type_systems;
 
 pub use documents::parse_document;
+pub use gql_model::{Definition, Document};
+pub use gql_tokens::{SyntaxError, Token, Tokens, lex, nesting};

@@ -1,4 +1,1 @@
-pub mod TokenLaws
-pub mod SelectionLaws
-pub mod ReadingLaws
-pub mod QueryLaws
+mod Names

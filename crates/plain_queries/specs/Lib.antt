@@ -1,5 +1,2 @@
-pub mod Tokens
-pub mod Lexing
-pub mod Selections
-pub mod Reading
-pub mod Queries
+pub mod Plain
+pub mod Sent

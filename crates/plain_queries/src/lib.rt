@@ -1,23 +1,15 @@
-//! The plain form of queries that the gate takes: a query is read from its text, and written as the text that is sent
-//! upstream. It stands on the texts, lists and named pairs of `text_types`.
+//! The plain form of queries, which is all that the gate takes as yet: one anonymous query whose
+//! selections are fields without alias, arguments and directives. It stands on the documents of
+//! `gql_model`.
 //!
-//! A query is one selection set of plain fields. [`parse_document`] accepts a text exactly where its
-//! tokens spell a selection set of this form, and what [`sent_text`] writes is that set's canonical
-//! text with `__typename` at the front of each inner set.
+//! [`plain_query`] gives the fields of a document exactly where it is of this form, and [`sent_text`]
+//! writes their canonical text with `__typename` at the front of each inner set.
 #![tactic(auto)]
 
-mod document;
-mod error;
-mod lexer;
-mod parser;
 mod printer;
+mod reading;
 mod selection;
-#[cfg(test)]
-mod tests;
-mod tokens;
 
-pub use document::Document;
-pub use error::SyntaxError;
-pub use parser::parse_document;
 pub use printer::sent_text;
+pub use reading::plain_query;
 pub use selection::{Selection, SelectionSet};

@@ -1,18 +1,17 @@
 ghost use Rattle.std.specs.Prelude.{◌≡◌, ◌++◌, OnOk, IfOk, map};
-ghost use Rattle.plain_queries.specs.Queries.{sent_text_of, fields_text, selection_text, is_leaf_text};
+ghost use Rattle.plain_queries.specs.Sent.{sent_text_of, fields_text, selection_text, is_leaf_text};
 
-use crate::document::Document;
 use crate::selection::{Selection, SelectionSet};
 use std::alloc::Global;
 use text_types::{Memory, Text};
 
-/// The canonical text of a document with `__typename` at the front of each inner set.
-pub fn sent_text(alloc: Global, document: &Document) -> Result<Text, Memory>
-    ensures { IfOk result (λ t. t ≡ sent_text_of document.now.selection) }
+/// The canonical text of a query with `__typename` at the front of each inner set.
+pub fn sent_text(alloc: Global, query: &SelectionSet) -> Result<Text, Memory>
+    ensures { IfOk result (λ t. t ≡ sent_text_of query.now) }
 {
     let mut out = Text::new(alloc);
     out.push_str("{")?;
-    write_fields(&document.selection, false, &mut out)?;
+    write_fields(query, false, &mut out)?;
     out.push_str("}")?;
     Ok(out)
 }

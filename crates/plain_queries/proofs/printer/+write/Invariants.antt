@@ -1,5 +1,5 @@
 use Rattle.std.proofs.Common.{◌≡◌, ◌++◌, map, drop}
-use Rattle.plain_queries.specs.Queries.{fields_text, selection_text}
+use Rattle.plain_queries.specs.Sent.{fields_text, selection_text}
 use Rattle.plain_queries.proofs.printer.+write.Given as goal
 
 abbrev pub invariant-write_fields-fields : goal.invariant-write_fields-fields

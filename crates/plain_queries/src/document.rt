@@ -1,7 +1,0 @@
-use crate::selection::SelectionSet;
-
-/// A document: one query.
-#[derive(Debug, Drop)]
-pub struct Document {
-    pub selection: SelectionSet,
-}
