@@ -24,7 +24,7 @@ ghost use Rattle.gql_documents.specs.TypeSystems.{described_start};
 
 use crate::error::ParseError;
 use gql_model::{LiteralValue, Name, OperationKind};
-use gql_tokens::{Kind, Lexer, Place, integer_value, name_text, string_value};
+use gql_tokens::{Kind, Lexer, Place, integer_text, integer_value, name_text, string_value};
 use std::alloc::Global;
 use std::marker::Model;
 use std::str;
@@ -383,13 +383,4 @@ fn named_value(alloc: Global, text: &[u8]) -> Result<LiteralValue, Memory>
         return Ok(LiteralValue::Null);
     }
     Ok(LiteralValue::Enum(name_text(alloc, text)?))
-}
-
-fn integer_text(alloc: Global, text: &[u8]) -> Result<Text, Memory>
-    ensures { IfOk result (λ t. t ≡ text.now) }
-{
-    match str::from_utf8(text) {
-        Ok(digits) => Text::from_str(alloc, digits),
-        Err(_) => Err(Memory),
-    }
 }
