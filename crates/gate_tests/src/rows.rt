@@ -6,7 +6,7 @@ use std::test::Fail;
 /// A name, the input, and what is written for it.
 type Row = (&'static str, &'static str, &'static str);
 
-const ROWS: [Row; 9] = [
+const ROWS: [Row; 10] = [
     (
         "plain path",
         "{\"do\":\"dispatch\",\"id\":1,\"query\":\"{me{id name}}\"}\n{\"do\":\"response\",\"fetch\":1,\"body\":{\"data\":{\"me\":{\"__typename\":\"User\",\"id\":\"7\",\"name\":\"Ann\"}}}}\n",
@@ -26,7 +26,12 @@ const ROWS: [Row; 9] = [
     (
         "refusals, with blank lines counted",
         "{\"do\":\n \t\r\n{\"do\":\"quit\"}\n{\"do\":\"dispatch\",\"id\":-1,\"query\":\"{me}\"}\n{\"do\":\"dispatch\",\"id\":1,\"query\":\"{me{id name}\"}\n\n{\"do\":\"response\",\"fetch\":1,\"body\":{}}",
-        "{\"out\":\"refused\",\"line\":1,\"code\":\"E2\"}\n{\"out\":\"refused\",\"line\":3,\"code\":\"E3\",\"member\":\"do\"}\n{\"out\":\"refused\",\"line\":4,\"code\":\"E3\",\"member\":\"do\"}\n{\"out\":\"refused\",\"line\":5,\"code\":\"E6\",\"row\":1,\"column\":1}\n{\"out\":\"refused\",\"line\":7,\"code\":\"E3\",\"member\":\"do\"}\n",
+        "{\"out\":\"refused\",\"line\":1,\"code\":\"E2\"}\n{\"out\":\"refused\",\"line\":3,\"code\":\"E3\",\"member\":\"do\"}\n{\"out\":\"refused\",\"line\":4,\"code\":\"E3\",\"member\":\"do\"}\n{\"out\":\"refused\",\"line\":5,\"code\":\"E6\",\"row\":1,\"column\":13}\n{\"out\":\"refused\",\"line\":7,\"code\":\"E3\",\"member\":\"do\"}\n",
+    ),
+    (
+        "documents that aren't plain queries",
+        "{\"do\":\"dispatch\",\"id\":1,\"query\":\"query A{me}\"}\n{\"do\":\"dispatch\",\"id\":1,\"query\":\"{todo(id:\\\"1\\\"){id}}\"}\n{\"do\":\"dispatch\",\"id\":1,\"query\":\"{a a}\"}\n{\"do\":\"dispatch\",\"id\":1,\"query\":\"{__typename}\"}\n{\"do\":\"dispatch\",\"id\":1,\"query\":\"mutation{a}\"}\n{\"do\":\"dispatch\",\"id\":1,\"query\":\"{x:a}\"}\n{\"do\":\"dispatch\",\"id\":1,\"query\":\"{...F} fragment F on Query{a}\"}\n{\"do\":\"dispatch\",\"id\":1,\"query\":\"type A\"}\n{\"do\":\"dispatch\",\"id\":1,\"query\":\"{me\\n}}\"}\n{\"do\":\"dispatch\",\"id\":1,\"query\":\"{{{{{{{{{{{{{{{{{{{{{{{{{{{{{{{{{{{{{{{{{{{{{{{{{{{{{{{{{{{{{{{{\"}\n{\"do\":\"dispatch\",\"id\":1,\"query\":\"{{{{{{{{{{{{{{{{{{{{{{{{{{{{{{{{{{{{{{{{{{{{{{{{{{{{{{{{{{{{{{{{{\"}\n{\"do\":\"dispatch\",\"id\":1,\"query\":\"query{me}\"}\n",
+        "{\"out\":\"refused\",\"line\":1,\"code\":\"E3\",\"member\":\"query\"}\n{\"out\":\"refused\",\"line\":2,\"code\":\"E3\",\"member\":\"query\"}\n{\"out\":\"refused\",\"line\":3,\"code\":\"E3\",\"member\":\"query\"}\n{\"out\":\"refused\",\"line\":4,\"code\":\"E3\",\"member\":\"query\"}\n{\"out\":\"refused\",\"line\":5,\"code\":\"E3\",\"member\":\"query\"}\n{\"out\":\"refused\",\"line\":6,\"code\":\"E3\",\"member\":\"query\"}\n{\"out\":\"refused\",\"line\":7,\"code\":\"E3\",\"member\":\"query\"}\n{\"out\":\"refused\",\"line\":8,\"code\":\"E3\",\"member\":\"query\"}\n{\"out\":\"refused\",\"line\":9,\"code\":\"E6\",\"row\":2,\"column\":2}\n{\"out\":\"refused\",\"line\":10,\"code\":\"E6\",\"row\":1,\"column\":2}\n{\"out\":\"refused\",\"line\":11,\"code\":\"E14\"}\n{\"out\":\"fetch\",\"fetch\":1,\"query\":\"{me}\",\"operationName\":null,\"variables\":{}}\n",
     ),
     (
         "an id that still waits is refused before its query is looked at",

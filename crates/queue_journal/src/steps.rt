@@ -40,20 +40,20 @@ pub fn cut_synced<D: Disk>(disk: &mut D, len: u64) -> Result<(), Failed>
 }
 
 /// Writes a record and a closed commit byte behind an end, and then opens the commit byte before it.
-pub fn append_record<D: Disk>(disk: &mut D, end: u64, record: &[u8]) -> Result<(), Failed>
+pub fn append_record<D: Disk>(disk: &mut D, end: u64, bytes: &[u8]) -> Result<(), Failed>
     requires start { (0 < end) × (end ≤ D.kept disk.old) }
-    requires room { end + length record.now ≤ 67108864 }
+    requires room { end + length bytes.now ≤ 67108864 }
     ensures written { OnOk result (D.reads disk.new
-        ≡ option_map (λ file. written (end - 1) (1 ∷ []) (written end record.now file)) (D.reads disk.old)) }
-    ensures kept { OnOk result (D.kept disk.new ≡ max (D.kept disk.old) (end + length record.now)) }
+        ≡ option_map (λ file. written (end - 1) (1 ∷ []) (written end bytes.now file)) (D.reads disk.old)) }
+    ensures kept { OnOk result (D.kept disk.new ≡ max (D.kept disk.old) (end + length bytes.now)) }
     ensures told { is_some (D.reads disk.new) ≡ is_some (D.reads disk.old) }
     ensures durable { OnOk result (WhereTold (D.reads disk.new) (λ file. Only file (D.may_leave disk.new))) }
     ensures crash { WhereTold (D.reads disk.old) (λ file. Only file (D.may_leave disk.old)
-        → LeavesOnly D.moment D.left_since disk.old disk.new (λ c. IsTorn end (length record.now) file c
-        ⊎ IsTorn (end - 1) 1 (written end record.now file) c)) }
+        → LeavesOnly D.moment D.left_since disk.old disk.new (λ c. IsTorn end (length bytes.now) file c
+        ⊎ IsTorn (end - 1) 1 (written end bytes.now file) c)) }
     ensures cause { HasCause (D.faults disk.old) (D.faults disk.new) result }
 {
-    write_synced(disk, end, record)?;
+    write_synced(disk, end, bytes)?;
     write_synced(disk, end - 1, &[1])
 }
 
