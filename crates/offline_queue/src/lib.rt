@@ -1,0 +1,24 @@
+//! The queue of mutations that wait for the network, after urql's offlineExchange. It stands on
+//! `queue_model` for what a queue is, on `text_types`, and on `fault_causes` for the words on faults
+//! and crashes.
+//!
+//! Its contract for the layer above is [`Keeper`]: whatever keeps the rows follows `queued` and
+//! `completed` of `queue_model`, says why it refuses a row, and, where it tells what a crash might
+//! leave, shows that this is always the rows before a call or after it. [`MemoryKeeper`] keeps them
+//! in memory.
+#![tactic(auto)]
+
+mod keeper;
+mod memory_keeper;
+mod search;
+
+pub use keeper::{Keeper, PutError};
+pub use memory_keeper::{MemoryKeeper, NextRow};
+pub use queue_model::Row;
+pub use text_types::Items;
+
+/// Rows in order.
+pub type Rows = Items<Row>;
+
+#[cfg(test)]
+mod tests;
