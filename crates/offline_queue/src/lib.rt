@@ -10,11 +10,15 @@
 
 mod keeper;
 mod memory_keeper;
+mod offer;
 mod search;
+mod stage;
 
 pub use keeper::{Keeper, PutError};
 pub use memory_keeper::{MemoryKeeper, NextRow};
+pub use offer::{Kept, Offer};
 pub use queue_model::Row;
+pub use stage::OfflineStage;
 pub use text_types::Items;
 
 /// Rows in order.
@@ -22,3 +26,5 @@ pub type Rows = Items<Row>;
 
 #[cfg(test)]
 mod tests;
+#[cfg(test)]
+mod stage_tests;
