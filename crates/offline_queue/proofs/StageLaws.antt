@@ -19,9 +19,9 @@ use Rattle.offline_queue.specs.Stage.{Answers, ComesUp}
 -- a fetch that isn't down may be taken out
 pub absent_removed : (d : Offered) (f : ℕ) → finite.get d f ≡ None → d ≡ finite.remove d f
 absent_removed d f none = finite.same_map nat_cmp_total finite.nat_cmp-IsAntisymmetric _ _ (λ q. elim (tells q f) [
-    | inl (b, same) ↦ subst (λ u. finite.get d u ≡ finite.get (finite.remove d f) u) (sym same) (none ∙ sym (got_removed d f))
-    | inr (b, n) ↦ sym (got_kept d f q n)
-  ])
+  | inl (b, same) ↦ subst (λ u. finite.get d u ≡ finite.get (finite.remove d f) u) (sym same) (none ∙ sym (got_removed d f))
+  | inr (b, n) ↦ sym (got_kept d f q n)
+])
 
 module _ {K : Type 0} (puts : K → K → RowTexts → Result ℕ PutError → Type 0) (keeper : K) (d : Offered) where
   absent_up : (C : Type 0) (res : Kept) → finite.get d (fetch_of res) ≡ None → (texts : Option RowTexts) → texts ≡ None → ComesUp {C = C} puts keeper d res keeper texts []
@@ -55,15 +55,15 @@ told_of fetch (Err error) = refl
 -- what is down without a fetch was down before, and isn't that fetch
 down_kept : (d : Offered) (f i : ℕ) → IsDown (finite.remove d f) i → IsDown d i × (i ≢ f)
 down_kept d f i h = elim (tells i f) [
-    | inl (b, same) ↦ absurd (let none : finite.get (finite.remove d f) i ≡ None = ap (finite.get (finite.remove d f)) same ∙ got_removed d f in let some : is_some {T = Option RowTexts} None ≡ true = subst IsSome none h in cc some)
-    | inr (b, n) ↦ (subst IsSome (got_kept d f i n) h, n)
-  ]
+  | inl (b, same) ↦ absurd (let none : finite.get (finite.remove d f) i ≡ None = ap (finite.get (finite.remove d f)) same ∙ got_removed d f in let some : is_some {T = Option RowTexts} None ≡ true = subst IsSome none h in cc some)
+  | inr (b, n) ↦ (subst IsSome (got_kept d f i n) h, n)
+]
 
 down_beside : (d : Offered) (f i : ℕ) (v : Option RowTexts) → IsDown (finite.insert d f v) i → MayAwait (kind_of (Mutation f v)) (IsDown d i) i
 down_beside d f i v h = elim (tells i f) [
-    | inl (b, same) ↦ inr same
-    | inr (b, n) ↦ inl (subst IsSome (got_beside d f i v n) h)
-  ]
+  | inl (b, same) ↦ inr same
+  | inr (b, n) ↦ inl (subst IsSome (got_beside d f i v n) h)
+]
 
 same_down : (before after : Offered) (i : ℕ) → after ≡ before → IsDown after i → IsDown before i
 same_down before after i e h = subst (λ d. IsDown d i) e h

@@ -15,7 +15,9 @@ pub enum Offer {
         row: Option<(Text, Text, Text)>,
     },
     /// The fetch isn't wanted any more.
-    Teardown { fetch: u64 },
+    Teardown {
+        fetch: u64,
+    },
 }
 
 impl Operation for Offer {

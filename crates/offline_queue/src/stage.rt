@@ -92,11 +92,7 @@ impl<C: Drop, K: Keeper> Exchange<C> for OfflineStage<K> {
 
     ghost answers = { λ s res t given. Answers (PutInto K.queue K.intact K.faults K.tells K.moment K.left_since) s.keeper s.down res t.keeper t.down given };
 
-    fn operation(
-        &mut self,
-        op: Offer,
-        out: &mut Vec<Flow<Offer, Kept, C>>,
-    ) -> Result<(), Memory>
+    fn operation(&mut self, op: Offer, out: &mut Vec<Flow<Offer, Kept, C>>) -> Result<(), Memory>
         ensures lawful { OnOk result
             (OperatedOnto kind_of (IsDown self.old.down) (IsDown self.new.down) op out.old.items out.new.items) }
         ensures made { OnOk result
@@ -117,11 +113,7 @@ impl<C: Drop, K: Keeper> Exchange<C> for OfflineStage<K> {
         Ok(())
     }
 
-    fn result(
-        &mut self,
-        res: Kept,
-        out: &mut Vec<Flow<Offer, Kept, C>>,
-    ) -> Result<(), Memory>
+    fn result(&mut self, res: Kept, out: &mut Vec<Flow<Offer, Kept, C>>) -> Result<(), Memory>
         requires { K.intact self.old.keeper }
         ensures lawful { OnOk result
             (AnsweredOnto kind_of fetch_of (IsDown self.old.down) (IsDown self.new.down) out.old.items out.new.items) }
@@ -136,7 +128,13 @@ impl<C: Drop, K: Keeper> Exchange<C> for OfflineStage<K> {
         };
         out.reserve(1)?;
         let up = match (row, &res) {
-            (Some(texts), Kept::Answer { unreachable: true, .. }) => {
+            (
+                Some(texts),
+                Kept::Answer {
+                    unreachable: true,
+                    ..
+                },
+            ) => {
                 match self.keeper.put(&texts.0, &texts.1, &texts.2) {
                     Ok(row) => Kept::Queued { fetch, row },
                     Err(PutError::Memory) => return Err(Memory),

@@ -21,8 +21,19 @@ fn an_unreachable_mutation_is_queued(rt: HostRuntime) -> Result<(), Fail> {
     stage.operation(Offer::Teardown { fetch: 2 }, &mut given)?;
     assert_eq!(rt; given.len(), 1);
     let unreachable = true;
-    stage.result(Kept::Answer { fetch: 1, unreachable }, &mut given)?;
-    assert!(rt; matches!(given.last(), Some(Flow::Up(Kept::Queued { fetch: 1, row: 1 }))));
+    stage.result(
+        Kept::Answer {
+            fetch: 1,
+            unreachable,
+        },
+        &mut given,
+    )?;
+    assert!(rt;
+        matches!(
+            given.last(),
+            Some(Flow::Up(Kept::Queued { fetch: 1, row: 1 }))
+        )
+    );
     assert_eq!(rt; stage.rows()?.len(), 1);
     let _keeper = stage.into_keeper();
     Ok(())
