@@ -1,1 +1,3 @@
 pub mod Keeper
+pub mod Offers
+pub mod Stage

@@ -18,6 +18,8 @@ mod opening;
 mod record;
 mod records;
 mod steps;
+#[cfg(test)]
+mod tests;
 mod texts;
 
 pub use error::OpenError;
