@@ -4,4 +4,5 @@ pub mod HeadLaws
 pub mod LineCounts
 pub mod Numbers
 pub mod Pieces
+pub mod RequestLaws
 pub mod Uniqueness

@@ -5,3 +5,4 @@ pub mod Fetching
 pub mod Framing
 pub mod Heads
 pub mod Laws
+pub mod RequestHeads

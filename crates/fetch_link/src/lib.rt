@@ -14,6 +14,7 @@ mod head;
 mod laws;
 mod reply;
 mod request;
+mod request_head;
 mod response;
 #[cfg(test)]
 mod tests;
