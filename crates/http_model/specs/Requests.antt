@@ -44,12 +44,12 @@ chunked_so_far (whole came) = complete came
 chunked_so_far malformed = refused 400
 chunked_so_far too_long = refused 413
 
--- a body that ends in this way, of which these bytes came
+-- a body that ends in this way, of which these bytes came; that of a request never lasts until the close
 abbrev pub body_so_far : Framing → List ℕ → BodySoFar
 body_so_far framing.Empty came = complete []
 body_so_far (framing.Exact size) came = if nat_le size (length came) then complete (take size came) else wants
 body_so_far framing.Chunked came = chunked_so_far (chunked came)
-body_so_far framing.UntilClose came = wants
+body_so_far framing.UntilClose came = complete []
 body_so_far framing.Malformed came = refused 400
 body_so_far framing.TooLong came = refused 413
 
