@@ -19,13 +19,10 @@ fn told(outcome: &Outcome) -> &'static str {
 /// What a response comes to that comes in pieces of this size, and then the close.
 fn outcome_of_pieces(alloc: Global, message: &[u8], size: usize) -> Result<Outcome, Fail> {
     let mut fetch = Fetch::start(alloc);
-    let mut rest = message;
-    while !rest.is_empty() {
-        let (piece, behind) = rest.split_at(size.clamp(1, rest.len()));
+    for piece in message.chunks(size.max(1)) {
         if let Progress::Done(outcome) = fetch.poll(piece)? {
             return Ok(outcome);
         }
-        rest = behind;
     }
     Ok(fetch.ended()?)
 }
