@@ -5,4 +5,5 @@ pub mod LineCounts
 pub mod Numbers
 pub mod Pieces
 pub mod RequestLaws
+pub mod Tokens
 pub mod Uniqueness
