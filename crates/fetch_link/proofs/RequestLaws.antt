@@ -1,5 +1,5 @@
 -- Heads of requests that are whole, open or neither.
-use Rattle.std.proofs.Common.{◌≡◌, ◌≢◌, ◌⊎◌, inl, inr, ℕ, ◌+◌, ◌<◌, ◌≤◌, Bool, true, false, IsTrue, List, [], ◌∷◌, ◌++◌, length, map, take, drop, cond, if◌then◌else◌, refl, ap, sym, ◌∙◌, subst, arith, append-nil, append_assoc}
+use Rattle.std.proofs.Common.{◌≡◌, ◌≢◌, ◌⊎◌, inl, inr, ℕ, ◌+◌, ◌<◌, ◌≤◌, true, false, IsTrue, List, [], ◌∷◌, ◌++◌, length, take, if◌then◌else◌, refl, ap, sym, ◌∙◌, subst, arith, append-nil, append_assoc}
 use Rattle.std.proofs.lemmas.Bool.{cases_eq}
 use Rattle.std.proofs.lemmas.Bool.Decides.{nat_tests}
 use Rattle.std.proofs.lemmas.List.{length-map, length-take-le}
@@ -9,11 +9,11 @@ use Rattle.httparse.specs.declared.Error.TheVariants.{TooManyHeaders}
 use Rattle.httparse.specs.declared.spans.HeaderSpan.{HeaderSpan}
 use Rattle.httparse.specs.declared.spans.RequestSpans.{RequestSpans}
 use Rattle.httparse.specs.Pieces.{is_newline}
-use Rattle.httparse.specs.Grammar.{is_token_byte, is_uri_byte, AllPass, IsToken, print_blank, print_version, print_end, print_section, RequestHead, print_request, IsRequestHead, ReadsRequest, HasNoRequest, NeverHasRequest, MayBecomeRequest, EndsInTarget}
+use Rattle.httparse.specs.Grammar.{is_token_byte, is_uri_byte, IsToken, print_blank, print_version, print_end, print_section, RequestHead, print_request, IsRequestHead, ReadsRequest, NeverHasRequest, EndsInTarget}
 use Rattle.httparse.specs.Spans.{IsRequestAt, IsRequestWithin, RequestOverflows, RequestExceeds, header_bytes, name_and_value}
 use Rattle.httparse.proofs.GrammarLemmas.{request_unique, print_request-append}
 use Rattle.http_model.specs.Heads.{skip_empty_lines, lines_ended}
-use Rattle.http_model.specs.Requests.{IsWholeRequest, IsOpenRequest, IsBadRequest, IsUnread}
+use Rattle.http_model.specs.Requests.{IsBadRequest, IsUnread}
 use Rattle.fetch_link.proofs.HeadLaws.{known}
 use Rattle.fetch_link.proofs.LineCounts.{feeds, feeds-cons, feeds-append, feeds-none, feeds-end, feeds-section, token-feed, skip-blank, lines_ended-push, lines_ended-append, version-feeds}
 
@@ -41,9 +41,9 @@ unfolding is_token_byte
 token-newline b token = elim (cases_eq b 13) [
   | inl cr ↦ let never : IsTrue (is_token_byte 13) = subst (λ x. IsTrue (is_token_byte x)) cr token in cc
   | inr other ↦ elim (cases_eq b 10) [
-      | inl lf ↦ let never : IsTrue (is_token_byte 10) = subst (λ x. IsTrue (is_token_byte x)) lf token in cc
-      | inr neither ↦ grind (arith, nat_tests)
-    ]
+    | inl lf ↦ let never : IsTrue (is_token_byte 10) = subst (λ x. IsTrue (is_token_byte x)) lf token in cc
+    | inr neither ↦ grind (arith, nat_tests)
+  ]
 ]
 
 skip-token : (method rest : List ℕ) → IsToken method → skip_empty_lines (method ++ rest) ≡ method ++ rest
@@ -64,10 +64,21 @@ lines_ended-request h is =
     let whole : print_request h ≡ print_blank h.blank ++ line = sym (append-nil _) ∙ print_request-append h [] in
     let skipped : skip_empty_lines (print_request h) ≡ line = ap skip_empty_lines whole ∙ skip-blank h.blank line ∙ skip-token h.method behind_method is.method in
     let minor : feeds (print_version h.minor) ≡ 0 = version-feeds h.minor is.minor in
-    ap feeds skipped ∙ omega (arith, feeds-append h.method behind_method, feeds-none is_token_byte h.method token-feed is.method.1, feeds-cons 32 (h.target ++ behind_target),
-      feeds-append h.target behind_target, feeds-none is_uri_byte h.target refl is.target.1, feeds-cons 32 (print_version h.minor ++ behind_version),
-      feeds-append (print_version h.minor) behind_version, minor, feeds-append end section, feeds-end h.line_end,
-      feeds-append (print_section h.fields h.last) [], feeds-section h.fields h.last is.fields)
+    ap feeds skipped ∙ omega (
+      arith,
+      feeds-append h.method behind_method,
+      feeds-none is_token_byte h.method token-feed is.method.1,
+      feeds-cons 32 (h.target ++ behind_target),
+      feeds-append h.target behind_target,
+      feeds-none is_uri_byte h.target refl is.target.1,
+      feeds-cons 32 (print_version h.minor ++ behind_version),
+      feeds-append (print_version h.minor) behind_version,
+      minor,
+      feeds-append end section,
+      feeds-end h.line_end,
+      feeds-append (print_section h.fields h.last) [],
+      feeds-section h.fields h.last is.fields,
+    )
 
 lines_ended-exceeds : (room : ℕ) (bytes : List ℕ) → RequestExceeds room bytes → room + 1 < lines_ended bytes
 lines_ended-exceeds room bytes over =
@@ -90,11 +101,11 @@ pub IsBad-over : (bytes : List ℕ) (h : RequestHead) (rest : List ℕ) → ¬ (
 IsBad-over bytes h rest read reads over = record {
   read = read;
   none = λ k more whole.
-    let same = (request_unique bytes h k rest more reads whole.reads).0 in
-    elim over [
-      | inl long ↦ let short : length (print_request h) ≤ 65536 = subst (λ g. length (print_request g) ≤ 65536) (sym same) whole.size in absurd (omega arith)
-      | inr many ↦ let few : length h.fields ≤ 100 = subst (λ g. length g.fields ≤ 100) (sym same) whole.fields in absurd (omega arith)
-    ];
+      let same = (request_unique bytes h k rest more reads whole.reads).0 in
+      elim over [
+        | inl long ↦ let short : length (print_request h) ≤ 65536 = subst (λ g. length (print_request g) ≤ 65536) (sym same) whole.size in absurd (omega arith)
+        | inr many ↦ let few : length h.fields ≤ 100 = subst (λ g. length g.fields ≤ 100) (sym same) whole.fields in absurd (omega arith)
+      ];
   stuck = λ pending. pending.none h rest reads;
 }
 
@@ -103,13 +114,13 @@ pub IsBad-refused : (bytes : List ℕ) (e : Error) → ¬ (IsUnread bytes) → (
 IsBad-refused bytes e read never overflows exceeds = record {
   read = read;
   none = λ k more whole.
-    let many : 101 < length k.fields = overflows [] k more (subst (λ b. ReadsRequest b k more) (sym (append-nil bytes)) whole.reads) in
-    absurd (omega (arith, whole.fields, many));
+      let many : 101 < length k.fields = overflows [] k more (subst (λ b. ReadsRequest b k more) (sym (append-nil bytes)) whole.reads) in
+      absurd (omega (arith, whole.fields, many));
   stuck = λ pending. elim (known e) [
     | inl many ↦ absurd (omega (arith, pending.lines, lines_ended-exceeds 101 bytes (exceeds many)))
     | inr other ↦ elim pending.may [
-        | inl may ↦ never other may.0 may.1 [] may.2
-        | inr ends ↦ read (in_target bytes ends, pending.size)
-      ]
+      | inl may ↦ never other may.0 may.1 [] may.2
+      | inr ends ↦ read (in_target bytes ends, pending.size)
+    ]
   ];
 }

@@ -1,5 +1,5 @@
 -- What is judged of bytes as the head of a request.
-use Rattle.std.specs.Prelude.{◌≡◌, ◌≤◌, ℕ, List, length, drop}
+use Rattle.std.specs.Prelude.{◌≡◌, ℕ, List, length, drop}
 use Rattle.httparse.specs.Grammar.{RequestHead, print_request}
 use Rattle.httparse.specs.Spans.{IsWithin, span_bytes}
 use Rattle.httparse.specs.declared.spans.Span.{Span}

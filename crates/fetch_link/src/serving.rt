@@ -14,7 +14,9 @@ pub enum Asked {
         body: Bytes,
     },
     /// The status that refuses it.
-    Bad { status: u16 },
+    Bad {
+        status: u16,
+    },
 }
 
 /// A request, as its bytes come.
