@@ -1,5 +1,6 @@
 //! HTTP/1.1 messages on both sides of the gateway, byte by byte as they come: the response of the
-//! origin to a fetch, and the request of a client. It stands on `httparse` for the heads and on `http_model` for what bytes are.
+//! origin to a fetch, and the request of a client. It stands on `httparse` for the heads and on
+//! `http_model` for what bytes are.
 //!
 //! The layer above has one contract: where [`Fetch::poll`], [`Fetch::ended`] and [`Request::poll`]
 //! answer, they answer what all bytes so far come to, however they were cut.
