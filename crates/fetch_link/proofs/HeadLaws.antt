@@ -38,7 +38,8 @@ IsBad-past bytes none past = record {
   stuck = λ pending. elim past [ inl long ↦ absurd (omega (arith, pending.size)) | inr many ↦ absurd (omega (arith, pending.lines)) ];
 }
 
-known : (e : Error) → (e ≡ TooManyHeaders) ⊎ (e ≢ TooManyHeaders)
+-- whether the parser had no room
+pub known : (e : Error) → (e ≡ TooManyHeaders) ⊎ (e ≢ TooManyHeaders)
 known HeaderName = inr (λ same. cc)
 known HeaderValue = inr (λ same. cc)
 known NewLine = inr (λ same. cc)

@@ -4,4 +4,6 @@ pub mod HeadLaws
 pub mod LineCounts
 pub mod Numbers
 pub mod Pieces
+pub mod RequestLaws
+pub mod Tokens
 pub mod Uniqueness

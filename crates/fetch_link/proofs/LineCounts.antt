@@ -19,7 +19,7 @@ feeds bytes = count_by (λ b. b == 10) bytes
 abbrev one : ℕ → ℕ
 one b = cond (b == 10) 1 0
 
-feeds-cons : (b : ℕ) (bytes : List ℕ) → feeds (b ∷ bytes) ≡ one b + feeds bytes
+pub feeds-cons : (b : ℕ) (bytes : List ℕ) → feeds (b ∷ bytes) ≡ one b + feeds bytes
 feeds-cons b bytes = sum_by-cons one b bytes
 
 pub feeds-append : (xs ys : List ℕ) → feeds (xs ++ ys) ≡ feeds xs + feeds ys
@@ -31,7 +31,7 @@ one-le b = elim (b == 10) as (λ t. cond t 1 0 ≤ 1) [ true ↦ omega arith | f
 feeds-one : (b : ℕ) → feeds (b ∷ []) ≤ 1
 feeds-one b = omega (arith, feeds-cons b [], one-le b)
 
-one-other : (b : ℕ) (bytes : List ℕ) → b ≢ 10 → feeds (b ∷ bytes) ≡ feeds bytes
+pub one-other : (b : ℕ) (bytes : List ℕ) → b ≢ 10 → feeds (b ∷ bytes) ≡ feeds bytes
 one-other b bytes other =
     let no : (b == 10) ≡ false = grind (arith, nat_tests) in
     feeds-cons b bytes ∙ ap (λ t. cond t 1 0 + feeds bytes) no ∙ zero-add (feeds bytes)
@@ -45,11 +45,11 @@ feeds-none test (b ∷ bytes) fails all =
     let other : b ≢ 10 = λ same. let never : false ≡ true = sym fails ∙ subst P same passes in cc in
     one-other b bytes other ∙ feeds-none test bytes fails (All-tail P b bytes all)
 
-feeds-end : (end : LineEnd) → feeds (print_end end) ≡ 1
+pub feeds-end : (end : LineEnd) → feeds (print_end end) ≡ 1
 feeds-end crlf = refl
 feeds-end lf = refl
 
-skip-blank : (ends : List LineEnd) (rest : List ℕ) → skip_empty_lines (print_blank ends ++ rest) ≡ skip_empty_lines rest
+pub skip-blank : (ends : List LineEnd) (rest : List ℕ) → skip_empty_lines (print_blank ends ++ rest) ≡ skip_empty_lines rest
 skip-blank [] rest = refl
 skip-blank (crlf ∷ ends) rest = skip-blank ends rest
 skip-blank (lf ∷ ends) rest = skip-blank ends rest
@@ -72,7 +72,7 @@ lines_ended-append (x ∷ bytes) more =
       | false ↦ omega (arith, feeds-append (x ∷ bytes) more)
     ]
 
-token-feed : is_token_byte 10 ≡ false
+pub token-feed : is_token_byte 10 ≡ false
 unfolding is_token_byte
 token-feed = refl
 
@@ -89,12 +89,15 @@ feeds-fields : (fields : List Field) → All IsField fields → feeds (flat_map 
 feeds-fields [] all = refl
 feeds-fields (f ∷ fields) all = feeds-append (print_field f) (flat_map print_field fields) ∙ ap₂ (λ a b. a + b) (feeds-field f (All-head IsField f fields all)) (feeds-fields fields (All-tail IsField f fields all)) ∙ omega arith
 
-feeds-section : (fields : List Field) (last : LineEnd) → All IsField fields → feeds (print_section fields last) ≡ length fields + 1
+pub feeds-section : (fields : List Field) (last : LineEnd) → All IsField fields → feeds (print_section fields last) ≡ length fields + 1
 feeds-section fields last all = feeds-append (flat_map print_field fields) (print_end last) ∙ ap₂ (λ a b. a + b) (feeds-fields fields all) (feeds-end last)
 
 feeds-reason : (reason : Option (List ℕ)) → AllPass is_value_byte (reason_phrase reason) → feeds (print_reason reason) ≡ 0
 feeds-reason None all = refl
 feeds-reason (Some phrase) all = feeds-none is_value_byte phrase refl all
+
+pub version-feeds : (minor : ℕ) → minor ≤ 1 → feeds (print_version minor) ≡ 0
+version-feeds minor small = feeds-append (codes "HTTP/1.") ((48 + minor) ∷ []) ∙ zero-add _ ∙ one-other (48 + minor) [] (λ same. omega (arith, small, same))
 
 -- the lines of a whole head: its start line, its field lines and the empty one
 pub lines_ended-response : (h : ResponseHead) → IsResponseHead h → lines_ended (print_response h) ≡ length h.fields + 2
@@ -107,7 +110,7 @@ lines_ended-response h is =
     let line = print_version h.minor ++ behind_version in
     let whole : print_response h ≡ print_blank h.blank ++ line = sym (append-nil _) ∙ print_response-append h [] in
     let skipped : skip_empty_lines (print_response h) ≡ line = ap skip_empty_lines whole ∙ skip-blank h.blank line in
-    let minor : feeds (print_version h.minor) ≡ 0 = feeds-append (codes "HTTP/1.") ((48 + h.minor) ∷ []) ∙ zero-add _ ∙ one-other (48 + h.minor) [] (λ same. omega (arith, is.minor, same)) in
+    let minor = version-feeds h.minor is.minor in
     ap feeds skipped ∙ omega (
       arith,
       feeds-append (print_version h.minor) behind_version,

@@ -4,4 +4,8 @@ pub mod Chunks
 pub mod Fetching
 pub mod Framing
 pub mod Heads
+pub mod Hearing
 pub mod Laws
+pub mod Received
+pub mod RequestHeads
+pub mod Serving

@@ -5,7 +5,7 @@ ghost use Rattle.http_model.specs.Chunks.{chunked, reading};
 ghost use Rattle.http_model.specs.Message as spec;
 ghost use Rattle.fetch_link.specs.Bodies.{BodyGives, Keeps, progress_of};
 
-use crate::chunks::{BODY_LIMIT, Chunks, read_chunks};
+use crate::chunks::{BODY_LIMIT, CHUNKS_START, Chunks, read_chunks};
 use gql_value::{Fault, Outcome, outcome_of};
 use http_model::{ChunkPhase, Framing};
 use std::alloc::Global;
@@ -33,9 +33,6 @@ pub(crate) enum BodyStep {
     Wants(Body),
     Done(Outcome),
 }
-
-/// A chunked body begins with a size line.
-const CHUNKS_START: ChunkPhase = ChunkPhase::Size { digits: 0, size: 0 };
 
 /// A body whose first bytes came.
 pub(crate) fn begin_body(

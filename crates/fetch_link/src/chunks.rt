@@ -12,6 +12,9 @@ use text_types::{Bytes, Memory};
 /// The bytes of a body.
 pub(crate) const BODY_LIMIT: usize = 8_388_608;
 
+/// A chunked body begins with a size line.
+pub(crate) const CHUNKS_START: ChunkPhase = ChunkPhase::Size { digits: 0, size: 0 };
+
 /// What a chunked body is, beside the data that came.
 #[derive(Clone, Copy, Debug, PartialEq, Eq)]
 pub(crate) enum Chunks {

@@ -12,13 +12,13 @@ use httparse::Status;
 use httparse::spans::{EMPTY_HEADER_SPAN, HeaderSpan, ResponseSpans, parse_response};
 
 /// The bytes of a head, from the first byte of its message.
-const HEAD_LIMIT: usize = 65_536;
+pub(crate) const HEAD_LIMIT: usize = 65_536;
 
 /// The field lines of a head.
-const FIELD_LIMIT: usize = 100;
+pub(crate) const FIELD_LIMIT: usize = 100;
 
 /// Room for one field line more, so that a head within the room tells its exact count.
-const ROOM: usize = 101;
+pub(crate) const ROOM: usize = 101;
 
 /// What bytes are as the head of a response.
 #[derive(Clone, Copy, Debug)]
@@ -77,7 +77,7 @@ fn open_head(bytes: &[u8]) -> Judged
 }
 
 /// How many lines have ended, from the start line on.
-fn lines_ended(bytes: &[u8]) -> usize
+pub(crate) fn lines_ended(bytes: &[u8]) -> usize
     ensures { result ≡ spec.lines_ended bytes.now }
 {
     line_feeds(behind_empty_lines(bytes))

@@ -1,6 +1,7 @@
-use crate::{Fetch, Progress, reply_text, request_text};
+use crate::{Asked, Fetch, Progress, Request, reply_text, request_text};
 use gql_value::{Fault, Outcome};
 use std::alloc::Global;
+use std::str;
 use std::test::Fail;
 use text_types::Text;
 
@@ -72,6 +73,73 @@ fn a_response_comes_to_the_same_in_all_pieces(rt: HostRuntime) -> Result<(), Fai
                 expected,
                 "at {message} in pieces of {size}"
             );
+        }
+    }
+    Ok(())
+}
+
+/// What a request comes to that comes in pieces of this size.
+fn asked_in_pieces(alloc: Global, message: &[u8], size: usize) -> Result<Asked, Fail> {
+    let mut request = Request::start(alloc);
+    for piece in message.chunks(size.max(1)) {
+        match request.poll(piece)? {
+            Asked::Wants => {}
+            asked => return Ok(asked),
+        }
+    }
+    Ok(Asked::Wants)
+}
+
+/// A request as a line: its method, target and body, or its bad status.
+fn line_of(alloc: Global, asked: &Asked) -> Result<Text, Fail> {
+    let mut line = Text::new(alloc);
+    match asked {
+        Asked::Wants => line.push_str("wants")?,
+        Asked::Bad { status: 400 } => line.push_str("400")?,
+        Asked::Bad { status: 413 } => line.push_str("413")?,
+        Asked::Bad { .. } => line.push_str("another")?,
+        Asked::Whole { method, path, body } => {
+            line.push(method)?;
+            line.push_str(" ")?;
+            line.push(path)?;
+            line.push_str(" ")?;
+            line.push_str(str::from_utf8(body.as_slice()).unwrap_or("no text"))?;
+        }
+    }
+    Ok(line)
+}
+
+#[test]
+fn a_request_comes_to_the_same_in_all_pieces(rt: HostRuntime) -> Result<(), Fail> {
+    let rows = [
+        (
+            "POST /graphql HTTP/1.1\r\nHost: x\r\nContent-Length: 20\r\n\r\n{\"query\":\"{me{id}}\"}",
+            "POST /graphql {\"query\":\"{me{id}}\"}",
+        ),
+        ("\r\n\nGET /layers HTTP/1.1\r\n\r\n", "GET /layers "),
+        ("GET /flat?x=1 HTTP/1.0\n\n", "GET /flat?x=1 "),
+        (
+            "POST /graphql HTTP/1.1\r\nTransfer-Encoding: chunked\r\n\r\n2\r\n{}\r\n0\r\n\r\n",
+            "POST /graphql {}",
+        ),
+        (
+            "POST / HTTP/1.1\r\nContent-Length: 2\r\nContent-Length: 3\r\n\r\n",
+            "400",
+        ),
+        ("POST / HTTP/1.1\r\nContent-Length: x\r\n\r\n", "400"),
+        ("GET / HTTP/2.0\r\n\r\n", "400"),
+        (
+            "POST / HTTP/1.1\r\nTransfer-Encoding: chunked\r\n\r\nzz\r\n",
+            "400",
+        ),
+        ("POST / HTTP/1.1\r\nContent-Length: 8388609\r\n\r\n", "413"),
+        ("POST / HTTP/1.1\r\nContent-Length: 3\r\n\r\nab", "wants"),
+    ];
+    for (message, expected) in rows {
+        for size in 1..=message.len() {
+            let asked = asked_in_pieces(rt.alloc(), message.as_bytes(), size)?;
+            let line = line_of(rt.alloc(), &asked)?;
+            assert_eq!(rt; line.as_str(), expected, "at {message} in pieces of {size}");
         }
     }
     Ok(())
