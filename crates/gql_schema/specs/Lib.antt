@@ -1,0 +1,5 @@
+pub mod Ignored
+pub mod Lines
+pub mod Marks
+pub mod Repeated
+pub mod Reserved
