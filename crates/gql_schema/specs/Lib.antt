@@ -3,3 +3,4 @@ pub mod Lines
 pub mod Marks
 pub mod Repeated
 pub mod Reserved
+pub mod Seen

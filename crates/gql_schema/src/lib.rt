@@ -5,9 +5,8 @@
 //! it is broken. The least code wins, and then its least line.
 #![tactic(auto)]
 
-
 mod lines;
-
-
+mod listed;
+mod repeated;
 mod reserved;
-
+mod seen;
