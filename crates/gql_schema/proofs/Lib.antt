@@ -1,2 +1,3 @@
 mod EarlierLaws
+mod LeastLaws
 mod SeenLaws

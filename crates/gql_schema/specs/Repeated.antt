@@ -6,11 +6,14 @@ use Rattle.gql_model.specs.declared.name.Name.{Name}
 use Rattle.gql_model.specs.declared.executable.OperationKind.{OperationKind}
 use Rattle.gql_model.specs.declared.executable.OperationKind.TheVariants.{Query, Mutation, Subscription}
 use Rattle.gql_model.specs.declared.type_system.RootOperation.{RootOperation}
+use Rattle.gql_model.specs.declared.type_system.ObjectDefinition.{ObjectDefinition}
 use Rattle.gql_model.specs.declared.type_system.FieldDefinition.{FieldDefinition}
 use Rattle.gql_model.specs.declared.type_system.InputDefinition.{InputDefinition}
 use Rattle.gql_model.specs.declared.type_system.EnumValueDefinition.{EnumValueDefinition}
 use Rattle.gql_model.specs.declared.type_system.TypeSystemForm.{TypeSystemForm}
 use Rattle.gql_model.specs.declared.type_system.TypeSystemForm.TheVariants as form
+use Rattle.gql_schema.specs.declared.definitions.Class.{Class}
+use Rattle.gql_schema.specs.declared.definitions.Class.TheVariants as class
 use Rattle.gql_schema.specs.Lines.{earlier, least_by}
 use Rattle.gql_schema.specs.Marks.{Mark, mark_of, type_mark, directive_mark}
 use Rattle.gql_schema.specs.Ignored.{scalars}
@@ -50,27 +53,27 @@ repeated_arguments field = repeated (map input_mark field.arguments)
 abbrev pub repeated_fields : List FieldDefinition → Option ℕ
 repeated_fields fields = earlier (repeated (map field_mark fields)) (least_by repeated_arguments fields)
 
+-- in the lists of an object type or an interface
+abbrev pub repeated_part : ObjectDefinition → Option ℕ
+repeated_part d = earlier (repeated (map mark_of d.interfaces)) (repeated_fields d.fields)
+
 -- in the lists of one definition
 abbrev pub repeated_in : TypeSystemForm → Option ℕ
 repeated_in (form.Schema d) = repeated (map root_mark d.roots)
 repeated_in (form.Scalar d) = None
-repeated_in (form.Object d) = earlier (repeated (map mark_of d.interfaces)) (repeated_fields d.fields)
-repeated_in (form.Interface d) = earlier (repeated (map mark_of d.interfaces)) (repeated_fields d.fields)
+repeated_in (form.Object d) = repeated_part d
+repeated_in (form.Interface d) = repeated_part d
 repeated_in (form.Union d) = repeated (map mark_of d.members)
 repeated_in (form.Enum d) = repeated (map value_mark d.values)
 repeated_in (form.Input d) = repeated (map input_mark d.fields)
 repeated_in (form.Directive d) = repeated (map input_mark d.arguments)
 
--- the word `schema` of a definition, with its line
-abbrev pub schema_marks : TypeSystemForm → List Mark
-schema_marks (form.Schema d) = (codes "schema", d.place.row) ∷ []
-schema_marks _ = []
-
-abbrev pub type_marks : TypeSystemForm → List Mark
-type_marks d = option_to_list (option_map mark_of (type_mark d))
-
-abbrev pub directive_marks : TypeSystemForm → List Mark
-directive_marks d = option_to_list (option_map mark_of (directive_mark d))
+-- the names by which definitions of a class are told apart: a type's, a directive's, or the word `schema`
+abbrev pub marks_of : Class → TypeSystemForm → List Mark
+marks_of class.Type d = option_to_list (option_map mark_of (type_mark d))
+marks_of class.Directive d = option_to_list (option_map mark_of (directive_mark d))
+marks_of class.Schema (form.Schema d) = (codes "schema", d.place.row) ∷ []
+marks_of class.Schema _ = []
 
 -- the built-in scalars, which are there before the first line
 abbrev pub scalar_marks : List Mark
@@ -79,5 +82,6 @@ scalar_marks = map (λ name. (name, 0)) scalars
 -- the least line at which something is there twice
 abbrev pub repeated_line : List TypeSystemForm → Option ℕ
 repeated_line forms =
-    earlier (earlier (repeated (scalar_marks ++ flat_map type_marks forms)) (repeated (flat_map directive_marks forms)))
-    (earlier (repeated (flat_map schema_marks forms)) (least_by repeated_in forms))
+    earlier
+    (earlier (repeated (scalar_marks ++ flat_map (marks_of class.Type) forms)) (repeated (flat_map (marks_of class.Directive) forms)))
+    (earlier (repeated (flat_map (marks_of class.Schema) forms)) (least_by repeated_in forms))

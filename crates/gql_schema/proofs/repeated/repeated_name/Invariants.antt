@@ -3,5 +3,5 @@ use Rattle.gql_schema.specs.Marks.{mark_of}
 use Rattle.gql_schema.specs.Seen.{Saw}
 use Rattle.gql_schema.proofs.repeated.repeated_name.Given as goal
 
-abbrev pub invariant-loop-item : goal.invariant-loop-item
-invariant-loop-item g l = Saw l.seen (map (λ x. mark_of (g.T.Listed.listed x)) (take l.item-index l.items))
+abbrev pub invariant-items : goal.invariant-items
+invariant-items g l = Saw l.seen (map (λ x. mark_of (g.T.Listed.listed x)) (take l.item-index l.items))
