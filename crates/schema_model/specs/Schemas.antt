@@ -1,7 +1,6 @@
 -- What look-ups find in a schema (GraphQL October 2021, 3).
 use Rattle.std.specs.Prelude.{ℕ, Bool, false, List, Option, Some, None, is_some, slice_get}
 use Rattle.std.specs.Option.{option_map, option_map_or, option_and_then}
-use Rattle.gql_model.specs.declared.name.Name.{Name}
 use Rattle.gql_model.specs.declared.type_ref.TypeRef.{TypeRef}
 use Rattle.gql_model.specs.declared.executable.OperationKind.{OperationKind}
 use Rattle.gql_model.specs.declared.executable.OperationKind.TheVariants.{Query, Mutation, Subscription}
@@ -9,6 +8,7 @@ use Rattle.schema_model.specs.declared.schema.Schema.{Schema}
 use Rattle.schema_model.specs.declared.schema.SchemaType.{SchemaType}
 use Rattle.schema_model.specs.declared.schema.SchemaField.{SchemaField}
 use Rattle.schema_model.specs.declared.schema.InputValue.{InputValue}
+use Rattle.schema_model.specs.declared.schema.RootName.{RootName}
 use Rattle.schema_model.specs.declared.schema.RootNames.{RootNames}
 use Rattle.schema_model.specs.declared.schema.TypeId.{TypeId}
 use Rattle.schema_model.specs.declared.schema.TypeForm.{TypeForm}
@@ -43,7 +43,7 @@ kind_of (form.Enum values) = kind.Enum
 kind_of (form.Input fields) = kind.InputObject
 
 -- the name of the root type of a kind of operations (GraphQL October 2021, 3.3.1)
-abbrev pub root_name : RootNames → OperationKind → Option Name
+abbrev pub root_name : RootNames → OperationKind → Option RootName
 root_name roots Query = roots.query
 root_name roots Mutation = roots.mutation
 root_name roots Subscription = roots.subscription

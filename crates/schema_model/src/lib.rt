@@ -12,7 +12,7 @@ mod schema;
 mod table;
 
 pub use schema::{
-    InputValue, Interfaced, RootNames, Schema, SchemaDirective, SchemaField, SchemaType, TypeForm,
+    InputValue, Interfaced, RootName, RootNames, Schema, SchemaDirective, SchemaField, SchemaType, TypeForm,
     TypeId, TypeKind,
 };
 pub use table::Table;

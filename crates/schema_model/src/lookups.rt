@@ -4,11 +4,11 @@ ghost use Rattle.schema_model.specs.Tables.{entry};
 ghost use Rattle.schema_model.specs.Schemas.{type_at, id_named, kind_of, root_name, root_of, field_in, field_of, field_type_of, input_fields_in, input_fields_of, has_value, enum_has};
 
 use crate::schema::{
-    InputValue, RootNames, Schema, SchemaDirective, SchemaField, SchemaType, TypeForm, TypeId,
+    InputValue, RootName, RootNames, Schema, SchemaDirective, SchemaField, SchemaType, TypeForm, TypeId,
     TypeKind,
 };
 use crate::table::Table;
-use gql_model::{Name, OperationKind, TypeRef};
+use gql_model::{OperationKind, TypeRef};
 use text_types::Text;
 
 impl Schema {
@@ -108,7 +108,7 @@ impl Schema {
 }
 
 impl RootNames {
-    pub fn name_of(&self, kind: OperationKind) -> Option<&Name>
+    pub fn name_of(&self, kind: OperationKind) -> Option<&RootName>
         ensures { option_copied result ≡ root_name self.now kind }
     {
         match kind {

@@ -1,6 +1,6 @@
 use crate::table::Table;
 use gql_model::{Literal, Name, TypeNode};
-use text_types::Items;
+use text_types::{Items, Text};
 
 /// The number of a type in its schema, counted from 0.
 #[derive(Clone, Copy, Debug, PartialEq, Eq)]
@@ -15,13 +15,20 @@ pub struct Schema {
     pub roots: RootNames,
 }
 
-/// The name of the root type of each kind of operations, as it stands in the text (GraphQL October
-/// 2021, 3.3.1).
+/// The root type of each kind of operations (GraphQL October 2021, 3.3.1).
 #[derive(Drop)]
 pub struct RootNames {
-    pub query: Option<Name>,
-    pub mutation: Option<Name>,
-    pub subscription: Option<Name>,
+    pub query: Option<RootName>,
+    pub mutation: Option<RootName>,
+    pub subscription: Option<RootName>,
+}
+
+/// The name of a root type. The line is that of the name in `schema`, or in its definition where there
+/// is no `schema`.
+#[derive(Drop)]
+pub struct RootName {
+    pub line: u64,
+    pub text: Text,
 }
 
 /// A type. The line is that of its name, and 0 for a built-in scalar.

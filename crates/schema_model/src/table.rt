@@ -1,7 +1,7 @@
 ghost use Rattle.std.specs.Prelude.{◌≡◌, [], ◌∷◌, ◌++◌, None, is_some, IfOk, OnSome, ◌<◌, length, slice_get};
 ghost use Rattle.std.specs.Option.{option_copied};
 ghost use Rattle.text_types.specs.Names.{HasDistinctNames};
-ghost use Rattle.schema_model.specs.Tables.{entry, place_of};
+ghost use Rattle.schema_model.specs.Tables.{entry, place_of, put};
 
 use std::alloc::Global;
 use std::collections::BTreeMap;
@@ -91,8 +91,18 @@ impl<T> Table<T> {
 }
 
 impl<T: Drop> Table<T> {
-    /// The table with one pair more.
-    pub fn with(self, name: Text, value: T) -> Result<Table<T>, Memory>
+    /// The table with one pair more, or as it is where the name is there.
+    pub fn put(self, name: Text, value: T) -> Result<Table<T>, Memory>
+        ensures { IfOk result (λ table. table ≡ put self (name, value)) }
+    {
+        if self.place_of(&name).is_some() {
+            Ok(self)
+        } else {
+            self.with(name, value)
+        }
+    }
+
+    fn with(self, name: Text, value: T) -> Result<Table<T>, Memory>
         requires { place_of self name ≡ None }
         ensures { IfOk result (λ table. table ≡ self ++ (name, value) ∷ []) }
     {
