@@ -1,6 +1,7 @@
 pub mod Ignored
 pub mod Lines
 pub mod Marks
+pub mod Meaning
 pub mod Repeated
 pub mod Reserved
 pub mod Seen

@@ -5,6 +5,7 @@
 //! it is broken. The least code wins, and then its least line.
 #![tactic(auto)]
 
+mod build;
 mod definitions;
 mod lines;
 mod listed;
