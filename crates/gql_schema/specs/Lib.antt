@@ -1,3 +1,4 @@
+pub mod Drafts
 pub mod Ignored
 pub mod Lines
 pub mod Marks

@@ -49,8 +49,8 @@ value_entry d = mark_of d.name
 abbrev pub names_of : List Name → List Mark
 names_of names = tabled (map mark_of names)
 
-abbrev pub parts_of : ObjectDefinition → Interfaced
-parts_of d = record { interfaces = names_of d.interfaces; fields = fields_of d.fields }
+abbrev pub parts_of : List Name → List FieldDefinition → Interfaced
+parts_of interfaces fields = record { interfaces = names_of interfaces; fields = fields_of fields }
 
 -- ---- types and directives
 
@@ -60,8 +60,8 @@ typed name body = (name.text, record { line = name.place.row; form = body })
 -- the type that a definition defines
 abbrev pub type_entries : TypeSystemForm → List NamedType
 type_entries (definition.Scalar d) = typed d.name form.Scalar ∷ []
-type_entries (definition.Object d) = typed d.name (form.Object (parts_of d)) ∷ []
-type_entries (definition.Interface d) = typed d.name (form.Interface (parts_of d)) ∷ []
+type_entries (definition.Object d) = typed d.name (form.Object (parts_of d.interfaces d.fields)) ∷ []
+type_entries (definition.Interface d) = typed d.name (form.Interface (parts_of d.interfaces d.fields)) ∷ []
 type_entries (definition.Union d) = typed d.name (form.Union (names_of d.members)) ∷ []
 type_entries (definition.Enum d) = typed d.name (form.Enum (tabled (map value_entry d.values))) ∷ []
 type_entries (definition.Input d) = typed d.name (form.Input (inputs_of d.fields)) ∷ []

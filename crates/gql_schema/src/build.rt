@@ -1,13 +1,10 @@
 ghost use Rattle.std.specs.Prelude.{◌≡◌, List, [], ◌∷◌, ◌++◌, IfOk, map};
 ghost use Rattle.schema_model.specs.Tables.{put, tabled};
 ghost use Rattle.gql_schema.specs.Marks.{mark_of};
-ghost use Rattle.gql_schema.specs.Meaning.{input_entry, inputs_of, field_entry, fields_of, value_entry, names_of, parts_of, directive_of};
+ghost use Rattle.gql_schema.specs.Meaning.{input_entry, inputs_of, field_entry, fields_of, value_entry, names_of, parts_of};
 
-use gql_model::{
-    DirectiveDefinition, EnumValueDefinition, FieldDefinition, InputDefinition, Name,
-    ObjectDefinition,
-};
-use schema_model::{InputValue, Interfaced, SchemaDirective, SchemaField, Table};
+use gql_model::{EnumValueDefinition, FieldDefinition, InputDefinition, Name};
+use schema_model::{InputValue, Interfaced, SchemaField, Table};
 use std::alloc::Global;
 use text_types::{Items, Memory};
 
@@ -87,25 +84,16 @@ pub(crate) fn names(alloc: Global, listed: Items<Name>) -> Result<Table<u64>, Me
     Ok(table)
 }
 
-pub(crate) fn parts(alloc: Global, definition: ObjectDefinition) -> Result<Interfaced, Memory>
-    ensures { IfOk result (λ parts. parts ≡ parts_of definition) }
+/// The parts of an object type or an interface.
+pub(crate) fn parts(
+    alloc: Global,
+    interfaces: Items<Name>,
+    definitions: Items<FieldDefinition>,
+) -> Result<Interfaced, Memory>
+    ensures { IfOk result (λ parts. parts ≡ parts_of interfaces definitions) }
 {
     Ok(Interfaced {
-        interfaces: names(alloc, definition.interfaces)?,
-        fields: fields(alloc, definition.fields)?,
-    })
-}
-
-pub(crate) fn directive(
-    alloc: Global,
-    definition: DirectiveDefinition,
-) -> Result<SchemaDirective, Memory>
-    ensures { IfOk result (λ d. d ≡ directive_of definition) }
-{
-    Ok(SchemaDirective {
-        line: definition.name.place.row,
-        arguments: inputs(alloc, definition.arguments)?,
-        repeatable: definition.repeatable,
-        locations: definition.locations,
+        interfaces: names(alloc, interfaces)?,
+        fields: fields(alloc, definitions)?,
     })
 }

@@ -5,10 +5,13 @@
 //! it is broken. The least code wins, and then its least line.
 #![tactic(auto)]
 
+mod assembled;
 mod build;
 mod definitions;
+mod draft;
 mod lines;
 mod listed;
 mod repeated;
 mod reserved;
+mod roots;
 mod seen;
