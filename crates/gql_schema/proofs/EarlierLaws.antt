@@ -1,7 +1,7 @@
 -- The lesser of two lines, as an operation.
 use Rattle.std.proofs.Common.{◌≡◌, ℕ, min, refl, ap, sym, ◌∙◌, arith, Bool, true, false, cond, ◌||◌}
 use Rattle.std.specs.Prelude.{Option, None, Some}
-use Rattle.gql_schema.specs.Lines.{earlier}
+use Rattle.schema_rules.specs.Lines.{earlier}
 
 min_assoc : (a b c : ℕ) → min (min a b) c ≡ min a (min b c)
 min_assoc a b c = omega arith

@@ -3,7 +3,7 @@ use Rattle.std.proofs.Common.{◌≡◌, ℕ, ◌+◌, ◌<◌, List, length, ta
 use Rattle.std.specs.Prelude.{Option, None, Some}
 use Rattle.std.specs.List.{fold}
 use Rattle.std.proofs.lemmas.List.Sums.{fold_more}
-use Rattle.gql_schema.specs.Lines.{earlier, least_by}
+use Rattle.schema_rules.specs.Lines.{earlier, least_by}
 
 pub least_more : {X : Type 0} (line : X → Option ℕ) (xs : List X) (i : ℕ) (x : X) (least found : Option ℕ)
     → i < length xs → x ≡ get_or xs i x → least ≡ least_by line (take i xs) → found ≡ line x

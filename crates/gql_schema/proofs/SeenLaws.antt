@@ -8,7 +8,7 @@ use Rattle.std.specs.Cmp.Lexicographic.{nat_list_eq_equiv}
 use Rattle.std.proofs.lemmas.List.Sums.{fold_push}
 use Rattle.std.proofs.lemmas.Map.Text.{is_eq-slice_cmp}
 use Rattle.text_types.specs.Texts.{text_cmp}
-use Rattle.gql_schema.specs.Lines.{earlier, least_by}
+use Rattle.schema_rules.specs.Lines.{earlier, least_by}
 use Rattle.gql_schema.specs.Marks.{Mark}
 use Rattle.gql_schema.specs.Repeated.{repeated, same_name}
 use Rattle.gql_schema.proofs.EarlierLaws.{earlier_swap, line_or}

@@ -1,6 +1,5 @@
 pub mod Drafts
 pub mod Ignored
-pub mod Lines
 pub mod Marks
 pub mod Meaning
 pub mod Repeated

@@ -1,4 +1,5 @@
 -- Names with the lines that they stand at.
+pub use Rattle.schema_rules.specs.Lines.{Mark}
 use Rattle.std.specs.Prelude.{◌≡◌, ℕ, Bool, List, [], ◌∷◌, Option, None, Some, cond, bytes_eq, codes}
 use Rattle.gql_model.specs.declared.name.Name.{Name}
 use Rattle.gql_model.specs.declared.executable.OperationKind.{OperationKind}
@@ -9,10 +10,6 @@ use Rattle.gql_model.specs.declared.type_system.InputDefinition.{InputDefinition
 use Rattle.gql_model.specs.declared.type_system.EnumValueDefinition.{EnumValueDefinition}
 use Rattle.gql_model.specs.declared.type_system.TypeSystemForm.{TypeSystemForm}
 use Rattle.gql_model.specs.declared.type_system.TypeSystemForm.TheVariants as form
-
--- a name and its line
-abbrev pub Mark : Type 0
-Mark = List ℕ × ℕ
 
 abbrev pub mark_of : Name → Mark
 mark_of name = (name.text, name.place.row)

@@ -14,7 +14,7 @@ use Rattle.gql_model.specs.declared.type_system.TypeSystemForm.{TypeSystemForm}
 use Rattle.gql_model.specs.declared.type_system.TypeSystemForm.TheVariants as form
 use Rattle.gql_schema.specs.declared.definitions.Class.{Class}
 use Rattle.gql_schema.specs.declared.definitions.Class.TheVariants as class
-use Rattle.gql_schema.specs.Lines.{earlier, least_by}
+use Rattle.schema_rules.specs.Lines.{earlier, least_by}
 use Rattle.gql_schema.specs.Marks.{Mark, mark_of, type_mark, directive_mark}
 use Rattle.gql_schema.specs.Ignored.{scalars}
 

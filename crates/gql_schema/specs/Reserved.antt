@@ -8,7 +8,7 @@ use Rattle.gql_model.specs.declared.type_system.InputDefinition.{InputDefinition
 use Rattle.gql_model.specs.declared.type_system.EnumValueDefinition.{EnumValueDefinition}
 use Rattle.gql_model.specs.declared.type_system.TypeSystemForm.{TypeSystemForm}
 use Rattle.gql_model.specs.declared.type_system.TypeSystemForm.TheVariants as form
-use Rattle.gql_schema.specs.Lines.{earlier, least_by}
+use Rattle.schema_rules.specs.Lines.{earlier, least_by}
 
 abbrev pub is_reserved : List ℕ → Bool
 is_reserved name = starts_with nat_eq name (codes "__")

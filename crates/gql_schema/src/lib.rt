@@ -9,7 +9,6 @@ mod assembled;
 mod build;
 mod definitions;
 mod draft;
-mod lines;
 mod listed;
 mod repeated;
 mod reserved;

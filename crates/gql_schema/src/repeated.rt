@@ -1,10 +1,10 @@
 ghost use Rattle.std.specs.Prelude.{◌≡◌, IfOk, map};
-ghost use Rattle.gql_schema.specs.Lines.{least_by};
+ghost use Rattle.schema_rules.specs.Lines.{least_by};
 ghost use Rattle.gql_schema.specs.Marks.{mark_of};
 ghost use Rattle.gql_schema.specs.Repeated.{repeated, kind_word, root_mark, repeated_arguments, repeated_part, repeated_in, repeated_line};
 
 use crate::definitions::{note_all, seen_scalars, Class};
-use crate::lines::earlier;
+use schema_rules::earlier;
 use crate::listed::Listed;
 use crate::seen::Seen;
 use gql_model::{FieldDefinition, ObjectDefinition, OperationKind, RootOperation, TypeSystemForm};

@@ -1,8 +1,8 @@
 ghost use Rattle.std.specs.Prelude.{◌≡◌};
-ghost use Rattle.gql_schema.specs.Lines.{least_by};
+ghost use Rattle.schema_rules.specs.Lines.{least_by};
 ghost use Rattle.gql_schema.specs.Reserved.{is_reserved, reserved, reserved_input, reserved_value, reserved_field, reserved_in, reserved_line};
 
-use crate::lines::earlier;
+use schema_rules::earlier;
 use gql_model::{EnumValueDefinition, FieldDefinition, InputDefinition, Name, TypeSystemForm};
 use text_types::Text;
 

@@ -3,7 +3,7 @@ ghost use Rattle.gql_schema.specs.Marks.{Mark};
 ghost use Rattle.gql_schema.specs.Repeated.{repeated};
 ghost use Rattle.gql_schema.specs.Seen.{Saw};
 
-use crate::lines::earlier;
+use schema_rules::earlier;
 use std::alloc::Global;
 use std::collections::BTreeSet;
 use text_types::{Memory, Text};

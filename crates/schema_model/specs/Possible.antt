@@ -9,10 +9,11 @@ use Rattle.schema_model.specs.declared.schema.TypeForm.TheVariants as form
 use Rattle.schema_model.specs.Tables.{entry}
 use Rattle.schema_model.specs.Schemas.{NamedType, type_at}
 
--- whether an object type declares that it implements an interface
-abbrev pub object_implements : TypeForm → List ℕ → Bool
-object_implements (form.Object parts) name = is_some (entry parts.interfaces name)
-object_implements _ name = false
+-- whether an object type or an interface declares that it implements an interface
+abbrev pub implements : TypeForm → List ℕ → Bool
+implements (form.Object parts) name = is_some (entry parts.interfaces name)
+implements (form.Interface parts) name = is_some (entry parts.interfaces name)
+implements _ name = false
 
 -- whether a union has a member
 abbrev pub has_member : TypeForm → List ℕ → Bool
@@ -27,7 +28,7 @@ is_object _ = false
 abbrev pub is_possible_type : NamedType → NamedType → Bool
 is_possible_type object named =
     is_object object.1.form
-    && (bytes_eq object.0 named.0 || object_implements object.1.form named.0 || has_member named.1.form object.0)
+    && (bytes_eq object.0 named.0 || implements object.1.form named.0 || has_member named.1.form object.0)
 
 -- the same, of the types of two numbers
 abbrev pub is_possible_of : Schema → TypeId → TypeId → Bool

@@ -1,6 +1,6 @@
 ghost use Rattle.std.specs.Prelude.{◌≡◌, bytes_eq};
 ghost use Rattle.schema_model.specs.Schemas.{NamedType};
-ghost use Rattle.schema_model.specs.Possible.{object_implements, has_member, is_possible_type, is_possible_of, have_common, have_common_object_of};
+ghost use Rattle.schema_model.specs.Possible.{is_object, implements, has_member, is_possible_type, is_possible_of, have_common, have_common_object_of};
 
 use crate::schema::{Schema, SchemaType, TypeForm, TypeId};
 use text_types::Text;
@@ -36,21 +36,36 @@ fn have_common(types: &[(Text, SchemaType)], a: &(Text, SchemaType), b: &(Text, 
 fn is_possible_type(object: &(Text, SchemaType), named: &(Text, SchemaType)) -> bool
     ensures { result ≡ is_possible_type object.now named.now }
 {
-    match &object.1.form {
-        TypeForm::Object(parts) => {
-            object.0 == named.0
-                || parts.interfaces.has(&named.0)
-                || has_member(&named.1.form, &object.0)
-        }
-        _ => false,
-    }
+    let form = &object.1.form;
+    form.is_object()
+        && (object.0 == named.0 || form.implements(&named.0) || named.1.form.has_member(&object.0))
 }
 
-fn has_member(form: &TypeForm, name: &Text) -> bool
-    ensures { result ≡ has_member form.now name.now }
-{
-    match form {
-        TypeForm::Union(members) => members.has(name),
-        _ => false,
+impl TypeForm {
+    pub fn is_object(&self) -> bool
+        ensures { result ≡ is_object self.now }
+    {
+        matches!(self, TypeForm::Object(_))
+    }
+
+    /// Whether an object type or an interface declares that it implements an interface.
+    pub fn implements(&self, interface: &Text) -> bool
+        ensures { result ≡ implements self.now interface.now }
+    {
+        match self {
+            TypeForm::Object(parts) => parts.interfaces.has(interface),
+            TypeForm::Interface(parts) => parts.interfaces.has(interface),
+            _ => false,
+        }
+    }
+
+    /// Whether a union has a member.
+    pub fn has_member(&self, member: &Text) -> bool
+        ensures { result ≡ has_member self.now member.now }
+    {
+        match self {
+            TypeForm::Union(members) => members.has(member),
+            _ => false,
+        }
     }
 }

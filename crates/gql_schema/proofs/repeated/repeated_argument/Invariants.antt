@@ -1,5 +1,5 @@
 use Rattle.std.proofs.Common.{◌≡◌, take}
-use Rattle.gql_schema.specs.Lines.{least_by}
+use Rattle.schema_rules.specs.Lines.{least_by}
 use Rattle.gql_schema.specs.Repeated.{repeated_arguments}
 use Rattle.gql_schema.proofs.repeated.repeated_argument.Given as goal
 

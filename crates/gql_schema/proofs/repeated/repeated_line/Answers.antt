@@ -1,6 +1,6 @@
 use Rattle.std.proofs.Common.{◌≡◌, [], ◌++◌, ap, ◌∙◌}
 use Rattle.std.specs.List.{flat_map}
-use Rattle.gql_schema.specs.Lines.{earlier}
+use Rattle.schema_rules.specs.Lines.{earlier}
 use Rattle.gql_schema.specs.Repeated.{scalar_marks}
 use Rattle.gql_schema.proofs.repeated.repeated_line.Goals as goal
 

@@ -3,7 +3,7 @@ use Rattle.std.specs.Prelude.{None, Some}
 use Rattle.std.specs.BTreeSet.{contains}
 use Rattle.std.specs.Ordering.{is_eq}
 use Rattle.text_types.specs.Texts.{text_cmp}
-use Rattle.gql_schema.specs.Lines.{earlier}
+use Rattle.schema_rules.specs.Lines.{earlier}
 use Rattle.gql_schema.specs.Marks.{Mark}
 use Rattle.gql_schema.specs.Repeated.{repeated}
 use Rattle.gql_schema.proofs.EarlierLaws.{earlier_none}

@@ -11,3 +11,7 @@ earlier (Some a) (Some b) = Some (min a b)
 -- the least line that the items of a list give
 abbrev pub least_by : {X : Type 0} → (X → Option ℕ) → List X → Option ℕ
 least_by line xs = fold (λ least x. earlier least (line x)) None xs
+
+-- a name and its line
+abbrev pub Mark : Type 0
+Mark = List ℕ × ℕ

@@ -1,8 +1,8 @@
 ghost use Rattle.std.specs.Prelude.{◌≡◌};
-ghost use Rattle.gql_schema.specs.Lines.{earlier};
+ghost use Rattle.schema_rules.specs.Lines.{earlier};
 
 /// The lesser of two lines, either of which may be missing.
-pub(crate) fn earlier(a: Option<u64>, b: Option<u64>) -> Option<u64>
+pub fn earlier(a: Option<u64>, b: Option<u64>) -> Option<u64>
     ensures { result ≡ earlier a b }
 {
     match (a, b) {
