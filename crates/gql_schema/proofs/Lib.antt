@@ -1,3 +1,0 @@
-mod EarlierLaws
-mod LeastLaws
-mod SeenLaws

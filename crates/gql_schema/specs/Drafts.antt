@@ -8,4 +8,5 @@ abbrev pub finished : Draft → Schema
 finished draft = record {
   types = draft.types;
   directives = draft.directives;
-  roots = unwrap_or draft.roots (default_roots draft.types) }
+  roots = unwrap_or draft.roots (default_roots draft.types);
+}

@@ -113,7 +113,8 @@ abbrev pub default_roots : List NamedType → RootNames
 default_roots types = record {
   query = default_root types (codes "Query");
   mutation = default_root types (codes "Mutation");
-  subscription = default_root types (codes "Subscription") }
+  subscription = default_root types (codes "Subscription");
+}
 
 abbrev pub stated_roots : List TypeSystemForm → Option RootNames
 stated_roots ds = fold (λ roots d. option_or roots (schema_roots d)) None ds
@@ -124,4 +125,5 @@ abbrev pub schema_of : List TypeSystemForm → Schema
 schema_of ds = record {
   types = types_of ds;
   directives = tabled (flat_map directive_entries ds);
-  roots = unwrap_or (stated_roots ds) (default_roots (types_of ds)) }
+  roots = unwrap_or (stated_roots ds) (default_roots (types_of ds));
+}

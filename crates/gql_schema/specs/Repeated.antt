@@ -17,15 +17,7 @@ use Rattle.gql_schema.specs.declared.definitions.Class.TheVariants as class
 use Rattle.schema_rules.specs.Lines.{earlier, least_by}
 use Rattle.gql_schema.specs.Marks.{Mark, mark_of, type_mark, directive_mark}
 use Rattle.gql_schema.specs.Ignored.{scalars}
-
--- the line of the second name, where the two names are the same
-abbrev pub same_name : Mark → Mark → Option ℕ
-same_name a b = cond (bytes_eq b.0 a.0) (Some b.1) None
-
--- the least line of a name that stands before it in the list too
-abbrev pub repeated : List Mark → Option ℕ
-repeated [] = None
-repeated (m ∷ ms) = earlier (least_by (same_name m) ms) (repeated ms)
+use Rattle.schema_defaults.specs.Repetitions.{repeated}
 
 abbrev pub kind_word : OperationKind → List ℕ
 kind_word Query = codes "query"

@@ -3,10 +3,10 @@ ghost use Rattle.std.specs.List.{flat_map};
 ghost use Rattle.std.specs.Option.{option_copied};
 ghost use Rattle.gql_schema.specs.Marks.{Mark, type_mark, directive_mark};
 ghost use Rattle.gql_schema.specs.Repeated.{marks_of, scalar_marks};
-ghost use Rattle.gql_schema.specs.Seen.{Saw};
+ghost use Rattle.schema_defaults.specs.Seen.{Saw};
 
-use crate::seen::Seen;
 use gql_model::{Name, TypeSystemForm};
+use schema_defaults::Seen;
 use std::alloc::Global;
 use text_types::{Memory, Text};
 
@@ -73,7 +73,6 @@ fn note_definition(
         Class::Schema => note_schema(alloc, seen, form),
     }
 }
-
 
 fn note_type(seen: Seen, form: &TypeSystemForm) -> Result<Seen, Memory>
     ensures { (marks : List Mark) → Saw seen marks → IfOk result (λ all. Saw all (marks ++ marks_of Class.Type form.now)) }

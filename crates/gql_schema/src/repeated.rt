@@ -1,21 +1,19 @@
 ghost use Rattle.std.specs.Prelude.{◌≡◌, IfOk, map};
 ghost use Rattle.schema_rules.specs.Lines.{least_by};
 ghost use Rattle.gql_schema.specs.Marks.{mark_of};
-ghost use Rattle.gql_schema.specs.Repeated.{repeated, kind_word, root_mark, repeated_arguments, repeated_part, repeated_in, repeated_line};
+ghost use Rattle.schema_defaults.specs.Repetitions.{repeated};
+ghost use Rattle.gql_schema.specs.Repeated.{kind_word, root_mark, repeated_arguments, repeated_part, repeated_in, repeated_line};
 
-use crate::definitions::{note_all, seen_scalars, Class};
-use schema_rules::earlier;
+use crate::definitions::{Class, note_all, seen_scalars};
 use crate::listed::Listed;
-use crate::seen::Seen;
 use gql_model::{FieldDefinition, ObjectDefinition, OperationKind, RootOperation, TypeSystemForm};
+use schema_defaults::Seen;
+use schema_rules::earlier;
 use std::alloc::Global;
 use text_types::{Memory, Text};
 
 /// The least line at which a type, a directive, `schema` or a name in its list is there twice.
-pub(crate) fn repeated_line(
-    alloc: Global,
-    forms: &[TypeSystemForm],
-) -> Result<Option<u64>, Memory>
+pub(crate) fn repeated_line(alloc: Global, forms: &[TypeSystemForm]) -> Result<Option<u64>, Memory>
     ensures { IfOk result (λ line. line ≡ repeated_line forms.now) }
 {
     let types = note_all(alloc, seen_scalars(alloc)?, Class::Type, forms)?;
@@ -62,10 +60,7 @@ fn repeated_part(alloc: Global, parts: &ObjectDefinition) -> Result<Option<u64>,
     Ok(earlier(interfaces, earlier(names, arguments)))
 }
 
-fn repeated_argument(
-    alloc: Global,
-    fields: &[FieldDefinition],
-) -> Result<Option<u64>, Memory>
+fn repeated_argument(alloc: Global, fields: &[FieldDefinition]) -> Result<Option<u64>, Memory>
     ensures { IfOk result (λ line. line ≡ least_by repeated_arguments fields.now) }
 {
     let mut least = None;

@@ -2,8 +2,8 @@ ghost use Rattle.std.specs.Prelude.{◌≡◌};
 ghost use Rattle.schema_rules.specs.Lines.{least_by};
 ghost use Rattle.gql_schema.specs.Reserved.{is_reserved, reserved, reserved_input, reserved_value, reserved_field, reserved_in, reserved_line};
 
-use schema_rules::earlier;
 use gql_model::{EnumValueDefinition, FieldDefinition, InputDefinition, Name, TypeSystemForm};
+use schema_rules::earlier;
 use text_types::Text;
 
 /// The least line of a defined name that begins with two underscores.
@@ -29,7 +29,10 @@ fn reserved_in(form: &TypeSystemForm) -> Option<u64>
         }
         TypeSystemForm::Union(d) => reserved(&d.name),
         TypeSystemForm::Enum(d) => earlier(reserved(&d.name), reserved_values(d.values.as_slice())),
-        TypeSystemForm::Input(d) => earlier(reserved(&d.name), reserved_inputs(d.fields.as_slice())),
+        TypeSystemForm::Input(d) => earlier(
+            reserved(&d.name),
+            reserved_inputs(d.fields.as_slice()),
+        ),
         TypeSystemForm::Directive(d) => {
             earlier(reserved(&d.name), reserved_inputs(d.arguments.as_slice()))
         }

@@ -65,10 +65,7 @@ fn with_root(names: RootNames, kind: OperationKind, name: RootName) -> RootNames
 }
 
 /// The roots where there is no `schema`.
-pub(crate) fn default_roots(
-    alloc: Global,
-    types: &Table<SchemaType>,
-) -> Result<RootNames, Memory>
+pub(crate) fn default_roots(alloc: Global, types: &Table<SchemaType>) -> Result<RootNames, Memory>
     ensures { IfOk result (λ roots. roots ≡ default_roots types.now) }
 {
     Ok(RootNames {

@@ -10,9 +10,11 @@ mod lookups;
 mod possible;
 mod schema;
 mod table;
+#[cfg(test)]
+mod tests;
 
 pub use schema::{
-    InputValue, Interfaced, RootName, RootNames, Schema, SchemaDirective, SchemaField, SchemaType, TypeForm,
-    TypeId, TypeKind,
+    InputValue, Interfaced, RootName, RootNames, Schema, SchemaDirective, SchemaField, SchemaType,
+    TypeForm, TypeId, TypeKind,
 };
 pub use table::Table;

@@ -4,8 +4,8 @@ ghost use Rattle.schema_model.specs.Tables.{entry};
 ghost use Rattle.schema_model.specs.Schemas.{type_at, id_named, kind_of, root_name, root_of, field_in, field_of, field_type_of, input_fields_in, input_fields_of, has_value, enum_has};
 
 use crate::schema::{
-    InputValue, RootName, RootNames, Schema, SchemaDirective, SchemaField, SchemaType, TypeForm, TypeId,
-    TypeKind,
+    InputValue, RootName, RootNames, Schema, SchemaDirective, SchemaField, SchemaType, TypeForm,
+    TypeId, TypeKind,
 };
 use crate::table::Table;
 use gql_model::{OperationKind, TypeRef};

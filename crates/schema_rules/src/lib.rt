@@ -16,5 +16,7 @@ mod uses;
 pub use lines::earlier;
 pub use misplaced::misplaced_line;
 pub use roots::root_line;
+pub use subtypes::is_non_null;
 pub use unknown::unknown_line;
-pub use unsatisfied::unsatisfied_line;
+pub use unsatisfied::{is_required, unsatisfied_line};
+pub use uses::named_type;

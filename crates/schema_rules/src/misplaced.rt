@@ -1,7 +1,7 @@
 ghost use Rattle.std.specs.Prelude.{◌≡◌};
 ghost use Rattle.schema_rules.specs.Misplaced.{misplaced_line};
 
-use crate::uses::{least_use, Ground};
+use crate::uses::{Ground, least_use};
 use schema_model::Schema;
 
 /// The least line of a type of the wrong kind.

@@ -22,11 +22,7 @@ pub fn root_line(schema: &Schema) -> Option<u64>
 fn no_query(roots: &RootNames) -> Option<u64>
     ensures { result ≡ no_query roots.now }
 {
-    if roots.query.is_some() {
-        None
-    } else {
-        Some(0)
-    }
+    if roots.query.is_some() { None } else { Some(0) }
 }
 
 fn roots_not_objects(schema: &Schema, roots: &RootNames) -> Option<u64>

@@ -35,7 +35,9 @@ pub(crate) fn is_subtype(schema: &Schema, given: &TypeRef, wanted: &TypeRef) -> 
 fn is_named_subtype(schema: &Schema, given: &Text, wanted: &Text) -> bool
     ensures { result ≡ is_named_subtype schema.now given.now wanted.now }
 {
-    given == wanted || type_implements(schema, given, wanted) || type_has_member(schema, wanted, given)
+    given == wanted
+        || type_implements(schema, given, wanted)
+        || type_has_member(schema, wanted, given)
 }
 
 fn type_implements(schema: &Schema, name: &Text, interface: &Text) -> bool
@@ -88,15 +90,11 @@ pub(crate) fn is_same_type(a: &TypeRef, b: &TypeRef) -> bool
 fn same_bool(a: bool, b: bool) -> bool
     ensures { result ≡ same_bool a b }
 {
-    if a {
-        b
-    } else {
-        !b
-    }
+    if a { b } else { !b }
 }
 
 /// Whether a type is Non-Null.
-pub(crate) fn is_non_null(type_ref: &TypeRef) -> bool
+pub fn is_non_null(type_ref: &TypeRef) -> bool
     ensures { result ≡ is_non_null type_ref.now }
 {
     match type_ref {

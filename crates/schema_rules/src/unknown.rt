@@ -3,7 +3,7 @@ ghost use Rattle.schema_rules.specs.Lines.{least_by};
 ghost use Rattle.schema_rules.specs.Unknown.{is_executable_location, is_type_system_location, is_location, unknown_location, unknown_locations, unknown_root, unknown_roots, unknown_line};
 
 use crate::lines::earlier;
-use crate::uses::{least_use, unknown, Ground};
+use crate::uses::{Ground, least_use, unknown};
 use gql_model::Name;
 use schema_model::{RootName, Schema, SchemaDirective};
 use text_types::Text;

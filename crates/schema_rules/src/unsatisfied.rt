@@ -107,8 +107,11 @@ fn has_field(schema: &Schema, parts: &Interfaced, wanted: &(Text, SchemaField)) 
 fn does_for(schema: &Schema, wanted: &SchemaField, field: &SchemaField) -> bool
     ensures { result ≡ does_for schema.now wanted.now field.now }
 {
-    is_subtype(schema, &field.field_type.type_ref, &wanted.field_type.type_ref)
-        && has_arguments(field, wanted.arguments.as_slice())
+    is_subtype(
+        schema,
+        &field.field_type.type_ref,
+        &wanted.field_type.type_ref,
+    ) && has_arguments(field, wanted.arguments.as_slice())
         && may_have_arguments(wanted, field.arguments.as_slice())
 }
 
@@ -145,7 +148,7 @@ fn may_have_argument(wanted: &SchemaField, argument: &(Text, InputValue)) -> boo
 }
 
 /// Whether an argument or input field has to be given.
-pub(crate) fn is_required(input: &InputValue) -> bool
+pub fn is_required(input: &InputValue) -> bool
     ensures { result ≡ is_required input.now }
 {
     is_non_null(&input.input_type.type_ref) && input.default.is_none()

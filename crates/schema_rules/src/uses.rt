@@ -53,7 +53,10 @@ fn least_in_directives(schema: &Schema, ground: Ground) -> Option<u64>
 {
     let directives = schema.directives.as_slice();
     directives.iter().fold(None, |least, directive| {
-        earlier(least, at_inputs(schema, ground, directive.1.arguments.as_slice()))
+        earlier(
+            least,
+            at_inputs(schema, ground, directive.1.arguments.as_slice()),
+        )
     })
 }
 
@@ -108,18 +111,27 @@ fn at_inputs(schema: &Schema, ground: Ground, inputs: &[(Text, InputValue)]) -> 
     ensures { result ≡ least_by (at_input (judgement schema.now ground)) inputs.now }
 {
     inputs.iter().fold(None, |least, input| {
-        earlier(least, at_type(schema, ground, Role::Input, &input.1.input_type))
+        earlier(
+            least,
+            at_type(schema, ground, Role::Input, &input.1.input_type),
+        )
     })
 }
 
 fn at_type(schema: &Schema, ground: Ground, role: Role, node: &TypeNode) -> Option<u64>
     ensures { result ≡ at_type (judgement schema.now ground) role node.now }
 {
-    judged(schema, ground, role, named_type(&node.type_ref), node.place.row)
+    judged(
+        schema,
+        ground,
+        role,
+        named_type(&node.type_ref),
+        node.place.row,
+    )
 }
 
 /// The type that is named under all lists.
-pub(crate) fn named_type(type_ref: &TypeRef) -> &Text
+pub fn named_type(type_ref: &TypeRef) -> &Text
     ensures { result.now ≡ named_type type_ref.now }
 {
     match type_ref {
@@ -160,11 +172,7 @@ fn misplaced(schema: &Schema, role: Role, name: &Text, line: u64) -> Option<u64>
 fn misplaced_form(role: Role, form: &TypeForm, line: u64) -> Option<u64>
     ensures { result ≡ cond (suits role form.now) None (Some line) }
 {
-    if suits(role, form) {
-        None
-    } else {
-        Some(line)
-    }
+    if suits(role, form) { None } else { Some(line) }
 }
 
 fn suits(role: Role, form: &TypeForm) -> bool
@@ -172,7 +180,10 @@ fn suits(role: Role, form: &TypeForm) -> bool
 {
     match role {
         Role::Output => !matches!(form, TypeForm::Input(_)),
-        Role::Input => matches!(form, TypeForm::Scalar | TypeForm::Enum(_) | TypeForm::Input(_)),
+        Role::Input => matches!(
+            form,
+            TypeForm::Scalar | TypeForm::Enum(_) | TypeForm::Input(_)
+        ),
         Role::Interface => matches!(form, TypeForm::Interface(_)),
         Role::Member => matches!(form, TypeForm::Object(_)),
     }

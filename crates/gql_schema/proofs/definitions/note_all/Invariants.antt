@@ -2,7 +2,7 @@ use Rattle.std.proofs.Common.{List, ◌++◌, take}
 use Rattle.std.specs.List.{flat_map}
 use Rattle.gql_schema.specs.Marks.{Mark}
 use Rattle.gql_schema.specs.Repeated.{marks_of}
-use Rattle.gql_schema.specs.Seen.{Saw}
+use Rattle.schema_defaults.specs.Seen.{Saw}
 use Rattle.gql_schema.proofs.definitions.note_all.Given as goal
 
 abbrev pub invariant-forms : goal.invariant-forms

@@ -1,6 +1,7 @@
 use Rattle.std.proofs.Common.{ap, ◌∙◌, map, arith}
-use Rattle.gql_schema.specs.Repeated.{repeated, input_mark, repeated_arguments}
-use Rattle.gql_schema.proofs.LeastLaws.{least_more}
+use Rattle.schema_defaults.specs.Repetitions.{repeated}
+use Rattle.gql_schema.specs.Repeated.{input_mark, repeated_arguments}
+use Rattle.schema_defaults.proofs.LeastLaws.{least_more}
 use Rattle.gql_schema.proofs.repeated.repeated_argument.Goals as goal
 
 pub fields-preserved : goal.fields-preserved

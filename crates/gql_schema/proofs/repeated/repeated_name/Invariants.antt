@@ -1,6 +1,6 @@
 use Rattle.std.proofs.Common.{map, take}
 use Rattle.gql_schema.specs.Marks.{mark_of}
-use Rattle.gql_schema.specs.Seen.{Saw}
+use Rattle.schema_defaults.specs.Seen.{Saw}
 use Rattle.gql_schema.proofs.repeated.repeated_name.Given as goal
 
 abbrev pub invariant-items : goal.invariant-items

@@ -1,6 +1,6 @@
 use Rattle.std.proofs.Common.{map, take}
 use Rattle.gql_schema.specs.Repeated.{root_mark}
-use Rattle.gql_schema.specs.Seen.{Saw}
+use Rattle.schema_defaults.specs.Seen.{Saw}
 use Rattle.gql_schema.proofs.repeated.repeated_root.Given as goal
 
 abbrev pub invariant-roots : goal.invariant-roots

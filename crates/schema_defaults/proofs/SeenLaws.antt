@@ -9,12 +9,9 @@ use Rattle.std.proofs.lemmas.List.Sums.{fold_push}
 use Rattle.std.proofs.lemmas.Map.Text.{is_eq-slice_cmp}
 use Rattle.text_types.specs.Texts.{text_cmp}
 use Rattle.schema_rules.specs.Lines.{earlier, least_by}
-use Rattle.gql_schema.specs.Marks.{Mark}
-use Rattle.gql_schema.specs.Repeated.{repeated, same_name}
-use Rattle.gql_schema.proofs.EarlierLaws.{earlier_swap, line_or}
-
-abbrev pub meets : List ℕ → List Mark → Bool
-meets name marks = list_any (λ m. bytes_eq name m.0) marks
+use Rattle.schema_rules.specs.Lines.{Mark}
+use Rattle.schema_defaults.specs.Repetitions.{repeated, same_name, meets}
+use Rattle.schema_defaults.proofs.EarlierLaws.{earlier_swap, line_or}
 
 -- the line of a name that was met before
 abbrev pub again : Mark → List Mark → Option ℕ

@@ -4,11 +4,11 @@ use Rattle.std.specs.BTreeSet.{contains}
 use Rattle.std.specs.Ordering.{is_eq}
 use Rattle.text_types.specs.Texts.{text_cmp}
 use Rattle.schema_rules.specs.Lines.{earlier}
-use Rattle.gql_schema.specs.Marks.{Mark}
-use Rattle.gql_schema.specs.Repeated.{repeated}
-use Rattle.gql_schema.proofs.EarlierLaws.{earlier_none}
-use Rattle.gql_schema.proofs.SeenLaws.{meets, meets_known, meets_new, repeated_push}
-use Rattle.gql_schema.proofs.seen.Seen.note.Goals as goal
+use Rattle.schema_rules.specs.Lines.{Mark}
+use Rattle.schema_defaults.specs.Repetitions.{repeated, meets}
+use Rattle.schema_defaults.proofs.EarlierLaws.{earlier_none}
+use Rattle.schema_defaults.proofs.SeenLaws.{meets_known, meets_new, repeated_push}
+use Rattle.schema_defaults.proofs.seen.Seen.note.Goals as goal
 
 pub returns-then-contains : goal.returns-then-contains
 returns-then-contains c = λ marks h.

@@ -1,7 +1,7 @@
 ghost use Rattle.std.specs.Prelude.{◌≡◌, List, [], ◌∷◌, ◌++◌, IfOk};
-ghost use Rattle.gql_schema.specs.Marks.{Mark};
-ghost use Rattle.gql_schema.specs.Repeated.{repeated};
-ghost use Rattle.gql_schema.specs.Seen.{Saw};
+ghost use Rattle.schema_rules.specs.Lines.{Mark};
+ghost use Rattle.schema_defaults.specs.Repetitions.{repeated};
+ghost use Rattle.schema_defaults.specs.Seen.{Saw, was_met};
 
 use schema_rules::earlier;
 use std::alloc::Global;
@@ -10,13 +10,13 @@ use text_types::{Memory, Text};
 
 /// The names met so far in a list, and the least line of one that had been met before.
 #[derive(Drop)]
-pub(crate) struct Seen {
-    pub(crate) names: BTreeSet<Text>,
-    pub(crate) repeated: Option<u64>,
+pub struct Seen {
+    names: BTreeSet<Text>,
+    repeated: Option<u64>,
 }
 
 impl Seen {
-    pub(crate) fn new(alloc: Global) -> Seen
+    pub fn new(alloc: Global) -> Seen
         ensures { Saw result [] }
     {
         Seen {
@@ -26,7 +26,7 @@ impl Seen {
     }
 
     /// Takes in one name more, with its line.
-    pub(crate) fn note(self, name: &Text, line: u64) -> Result<Seen, Memory>
+    pub fn note(self, name: &Text, line: u64) -> Result<Seen, Memory>
         ensures { (marks : List Mark) → Saw self marks → IfOk result (λ seen. Saw seen (marks ++ (name.now, line) ∷ [])) }
     {
         let Seen {
@@ -41,7 +41,15 @@ impl Seen {
         Ok(Seen { names, repeated })
     }
 
-    pub(crate) fn repeated_line(&self) -> Option<u64>
+    /// Whether a name was met.
+    pub fn has(&self, name: &Text) -> bool
+        ensures { result ≡ was_met self.now name.now }
+    {
+        self.names.contains(name)
+    }
+
+    /// The least line of a name that was met before.
+    pub fn repeated_line(&self) -> Option<u64>
         ensures { (marks : List Mark) → Saw self.now marks → result ≡ repeated marks }
     {
         self.repeated
