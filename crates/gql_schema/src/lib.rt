@@ -14,16 +14,16 @@ mod definitions;
 mod draft;
 mod error;
 mod ignored;
-mod judged;
 mod listed;
 mod repeated;
 mod reserved;
 mod roots;
+mod verdict;
 #[cfg(test)]
 mod tests;
 
 pub use error::SchemaError;
-pub use judged::judged;
+pub use verdict::judged;
 pub use schema_model::{
     InputValue, Interfaced, RootName, RootNames, Schema, SchemaDirective, SchemaField, SchemaType,
     Table, TypeForm, TypeId, TypeKind,

@@ -1,5 +1,5 @@
 use crate::error::SchemaError;
-use crate::judged::judged;
+use crate::verdict::judged;
 use gql_model::{
     FieldDefinition, Name, ObjectDefinition, ScalarDefinition, TypeNode, TypeRef, TypeSystemForm,
 };

@@ -47,11 +47,7 @@ fn unfit_directives(
     Ok(least)
 }
 
-fn unfit_form(
-    alloc: Global,
-    schema: &Schema,
-    form: &TypeForm,
-) -> Result<Option<u64>, Memory>
+fn unfit_form(alloc: Global, schema: &Schema, form: &TypeForm) -> Result<Option<u64>, Memory>
     ensures { IfOk result (λ line. line ≡ unfit_form schema.now form.now) }
 {
     match form {
@@ -91,11 +87,7 @@ fn unfit_inputs(
     Ok(least)
 }
 
-fn unfit_input(
-    alloc: Global,
-    schema: &Schema,
-    input: &InputValue,
-) -> Result<Option<u64>, Memory>
+fn unfit_input(alloc: Global, schema: &Schema, input: &InputValue) -> Result<Option<u64>, Memory>
     ensures { IfOk result (λ line. line ≡ unfit_input schema.now input.now) }
 {
     match &input.default {

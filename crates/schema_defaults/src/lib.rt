@@ -9,7 +9,6 @@ mod empty;
 mod fits;
 mod scalars;
 mod seen;
-
 #[cfg(test)]
 mod tests;
 

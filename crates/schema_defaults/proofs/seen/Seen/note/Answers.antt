@@ -17,10 +17,10 @@ returns-then-contains c = λ marks h.
     record {
       names = λ q. h.names q ∙ meets_known q marks m known;
       found =
-        c.earlier-repeated.ensures
-        ∙ ap (λ o. earlier o (Some m.1)) h.found
-        ∙ ap (λ b. earlier (repeated marks) (cond b (Some m.1) None)) (sym known)
-        ∙ sym (repeated_push marks m);
+          c.earlier-repeated.ensures
+          ∙ ap (λ o. earlier o (Some m.1)) h.found
+          ∙ ap (λ b. earlier (repeated marks) (cond b (Some m.1) None)) (sym known)
+          ∙ sym (repeated_push marks m);
     }
 
 pub returns : goal.returns
@@ -29,13 +29,13 @@ returns c = λ marks h.
     let unknown : meets m.0 marks ≡ false = sym (h.names m.0) ∙ sym c.contains.ensures ∙ c.if-contains.false in
     record {
       names = λ q.
-        c.in_ok-insert.ensures.updates.0 q
-        ∙ ap (λ n. cond (is_eq (text_cmp n q)) true (contains text_cmp c.args.self.names q)) c.in_ok-copy.ensures
-        ∙ ap (cond (is_eq (text_cmp m.0 q)) true) (h.names q)
-        ∙ meets_new q marks m;
+          c.in_ok-insert.ensures.updates.0 q
+          ∙ ap (λ n. cond (is_eq (text_cmp n q)) true (contains text_cmp c.args.self.names q)) c.in_ok-copy.ensures
+          ∙ ap (cond (is_eq (text_cmp m.0 q)) true) (h.names q)
+          ∙ meets_new q marks m;
       found =
-        h.found
-        ∙ sym (earlier_none (repeated marks))
-        ∙ ap (λ b. earlier (repeated marks) (cond b (Some m.1) None)) (sym unknown)
-        ∙ sym (repeated_push marks m);
+          h.found
+          ∙ sym (earlier_none (repeated marks))
+          ∙ ap (λ b. earlier (repeated marks) (cond b (Some m.1) None)) (sym unknown)
+          ∙ sym (repeated_push marks m);
     }
