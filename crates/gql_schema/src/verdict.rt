@@ -23,10 +23,19 @@ pub fn judged(alloc: Global, forms: Vec<TypeSystemForm>) -> Result<Schema, Schem
 {
     let mut kept = forms;
     leave_out_ignored(&mut kept);
-    if let Some(refusal) = definitions_refusal(alloc, kept.as_slice())? {
-        return Err(refusal.into_error());
+    match definitions_refusal(alloc, kept.as_slice())? {
+        Some(refusal) => Err(refusal.into_error()),
+        None => judged_schema(alloc, kept),
     }
-    let schema = assembled(alloc, kept)?;
+}
+
+/// The same of definitions that break neither S3 nor S4.
+fn judged_schema(alloc: Global, forms: Vec<TypeSystemForm>) -> Result<Schema, SchemaError>
+    ensures schema { IfOk result (λ schema. schema ≡ schema_of forms.items) }
+    ensures valid { OnOk result (schema_refusal (schema_of forms.items) ≡ None) }
+    ensures refused { IfErr result (IsRefusal (schema_refusal (schema_of forms.items))) }
+{
+    let schema = assembled(alloc, forms)?;
     match schema_refusal(alloc, &schema)? {
         Some(refusal) => Err(refusal.into_error()),
         None => Ok(schema),
