@@ -18,13 +18,13 @@ mod listed;
 mod repeated;
 mod reserved;
 mod roots;
-mod verdict;
 #[cfg(test)]
 mod tests;
+mod verdict;
 
 pub use error::SchemaError;
-pub use verdict::judged;
 pub use schema_model::{
     InputValue, Interfaced, RootName, RootNames, Schema, SchemaDirective, SchemaField, SchemaType,
     Table, TypeForm, TypeId, TypeKind,
 };
+pub use verdict::judged;
