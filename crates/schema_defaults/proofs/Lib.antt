@@ -1,0 +1,4 @@
+mod EarlierLaws
+pub mod LeastLaws
+mod SeenLaws
+mod TestLaws

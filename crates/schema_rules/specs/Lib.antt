@@ -1,0 +1,9 @@
+pub mod Grounds
+pub mod Lines
+pub mod Misplaced
+pub mod Roots
+pub mod Subtypes
+pub mod TypeRefs
+pub mod Unknown
+pub mod Unsatisfied
+pub mod Uses
