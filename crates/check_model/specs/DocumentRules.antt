@@ -1,14 +1,14 @@
 -- The rules on definitions and on spreads (GraphQL October 2021, 5.1, 5.2.1, 5.2.2, 5.5.1.1, 5.5.1.4 and 5.5.2).
-use Rattle.std.specs.Prelude.{ℕ, ◌==◌, Bool, true, false, ◌&&◌, not, List, [], Option, map, length, is_none}
+use Rattle.std.specs.Prelude.{ℕ, Bool, true, false, ◌&&◌, not, List, Option, Some, None, is_none}
 use Rattle.std.specs.List.{list_any, filter_map}
 use Rattle.std.specs.Option.{option_map}
 use Rattle.gql_model.specs.declared.executable.Operation.{Operation}
 use Rattle.gql_model.specs.declared.document.Document.{Document}
 use Rattle.gql_model.specs.declared.document.Definition.{Definition}
 use Rattle.gql_model.specs.declared.document.Definition.TheVariants as definition
-use Rattle.check_model.specs.Executables.{operations, fragment_named, as_fragment, operation_is, fragment_is, some_operation, placed}
+use Rattle.check_model.specs.Executables.{operations, only, fragment_named, operation_is, fragment_is, some_operation, placed}
 use Rattle.check_model.specs.Spreads.{spread_names, spread_graph, reaches_by_spreads}
-use Rattle.check_model.specs.Walks.{has_circle}
+use Rattle.digraph.specs.Walks.{has_circle}
 use Rattle.check_model.specs.Repeated.{stands_twice}
 
 abbrev pub is_type_system : Definition → Bool
@@ -19,12 +19,16 @@ is_type_system _ = false
 abbrev pub breaks_executable_definitions : Document → Bool
 breaks_executable_definitions document = list_any is_type_system document.definitions
 
-abbrev pub name_of_operation : Operation → Option (List ℕ)
-name_of_operation operation = option_map (λ n. n.text) operation.name
+abbrev pub operation_name : Operation → Option (List ℕ)
+operation_name operation = option_map (λ n. n.text) operation.name
+
+abbrev pub name_of_operation : Definition → Option (List ℕ)
+name_of_operation (definition.Operation d) = operation_name d
+name_of_operation _ = None
 
 -- the names of the operations that have one
 abbrev pub operation_names : Document → List (List ℕ)
-operation_names document = filter_map name_of_operation (operations document)
+operation_names document = filter_map name_of_operation document.definitions
 
 -- V2, 5.2.1.1 Operation Name Uniqueness: two operations have one name
 abbrev pub breaks_operation_name_uniqueness : Document → Bool
@@ -32,10 +36,11 @@ breaks_operation_name_uniqueness document = stands_twice (operation_names docume
 
 -- V3, 5.2.2.1 Lone Anonymous Operation: an anonymous operation isn't the only operation
 abbrev pub breaks_lone_anonymous_operation : Document → Bool
-breaks_lone_anonymous_operation document = some_operation (λ o. is_none o.name) document && not (length (operations document) == 1)
+breaks_lone_anonymous_operation document = some_operation (λ o. is_none o.name) document && is_none (only (operations document))
 
 abbrev pub name_of_fragment : Definition → Option (List ℕ)
-name_of_fragment d = option_map (λ f. f.name.text) (as_fragment d)
+name_of_fragment (definition.Fragment d) = Some d.name.text
+name_of_fragment _ = None
 
 abbrev pub fragment_names : Document → List (List ℕ)
 fragment_names document = filter_map name_of_fragment document.definitions

@@ -1,6 +1,6 @@
 -- The operations and fragments of a document (GraphQL October 2021, 2.3 and 2.8), and the operation that is chosen (6.1, GetOperation).
 use Rattle.std.specs.Prelude.{ℕ, Bool, false, List, [], ◌∷◌, Option, Some, None, bytes_eq}
-use Rattle.std.specs.List.{flat_map, find, list_any, position, enumerate_from}
+use Rattle.std.specs.List.{flat_map, find, list_any, position_from, enumerate_from}
 use Rattle.std.specs.Option.{option_map_or, option_and_then}
 use Rattle.gql_model.specs.declared.executable.Operation.{Operation}
 use Rattle.gql_model.specs.declared.executable.Fragment.{Fragment}
@@ -50,7 +50,7 @@ fragment_named document name = option_and_then as_fragment (find (defines name) 
 
 -- the place of that fragment among the definitions, counted from 0
 abbrev pub fragment_place : Document → List ℕ → Option ℕ
-fragment_place document name = position (defines name) document.definitions
+fragment_place document name = position_from (defines name) 0 document.definitions
 
 -- the definitions with their places
 abbrev pub placed : Document → List (ℕ × Definition)

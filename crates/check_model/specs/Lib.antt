@@ -20,4 +20,3 @@ pub mod Spreads
 pub mod Usages
 pub mod ValueRules
 pub mod VariableRules
-pub mod Walks

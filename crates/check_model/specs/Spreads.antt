@@ -13,7 +13,7 @@ use Rattle.gql_model.specs.declared.document.Document.{Document}
 use Rattle.gql_model.specs.declared.document.Definition.{Definition}
 use Rattle.gql_model.specs.declared.document.Definition.TheVariants as definition
 use Rattle.check_model.specs.Executables.{fragment_place}
-use Rattle.check_model.specs.Walks.{Graph, reaches}
+use Rattle.digraph.specs.Walks.{Graph, reaches}
 
 -- the names that are spread in a selection, a field, an inline fragment or a set
 abbrev pub Spreads : Type 0
