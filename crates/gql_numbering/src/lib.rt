@@ -9,6 +9,7 @@
 mod building;
 mod mark;
 mod numbering;
+mod parts;
 
 pub use mark::Mark;
 pub use numbering::Numbering;
