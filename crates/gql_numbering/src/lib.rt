@@ -10,6 +10,8 @@ mod building;
 mod mark;
 mod numbering;
 mod parts;
+#[cfg(test)]
+mod tests;
 
 pub use mark::Mark;
 pub use numbering::Numbering;
