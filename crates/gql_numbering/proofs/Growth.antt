@@ -59,7 +59,7 @@ marks_over-append m (OfField f ∷ xs) ys =
     let n = behind m (OfField f ∷ []) in
     marks_over-append n xs ys ∙ ap (λ (k : Mark). marks_over n xs ++ marks_over k ys) (sym (behind-append m (OfField f ∷ []) xs))
 
-length-marks_over : (m : Mark) (xs : List Beginning) → length (marks_over m xs) ≡ length (sets_among xs)
+pub length-marks_over : (m : Mark) (xs : List Beginning) → length (marks_over m xs) ≡ length (sets_among xs)
 length-marks_over m [] = refl
 length-marks_over m (OfSet s ∷ xs) = ap suc (length-marks_over (behind m (OfSet s ∷ [])) xs)
 length-marks_over m (OfField f ∷ xs) = length-marks_over (behind m (OfField f ∷ [])) xs
