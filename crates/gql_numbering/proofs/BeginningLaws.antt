@@ -1,14 +1,14 @@
 -- What begins in a set and in a selection, level by level.
-use Rattle.std.proofs.Common.{◌≡◌, List, [], ◌∷◌, ◌++◌, Option, Some, None, map, refl, subst, ap, sym, ◌∙◌}
+use Rattle.std.proofs.Common.{◌≡◌, List, [], ◌∷◌, Option, Some, None, map, refl, ap, ◌∙◌}
 use Rattle.std.specs.List.{flat_map}
-use Rattle.gql_model.specs.declared.selection.SelectionSet.{SelectionSet, out-SelectionSet}
+use Rattle.gql_model.specs.declared.selection.SelectionSet.{SelectionSet}
 use Rattle.gql_model.specs.declared.selection.Selection.{Selection, out-Selection, map-Selection}
-use Rattle.gql_model.specs.declared.selection.Selection.TheOpen.{SelectionSet-F, Selection-F, Field-F, InlineFragment-F}
+use Rattle.gql_model.specs.declared.selection.Selection.TheOpen.{Selection-F, Field-F}
 use Rattle.gql_model.specs.declared.selection.Selection.TheFolds.{fold-Field, fold-InlineFragment, fold_out-SelectionSet, fold_out-Selection, fold_out-Field, fold_out-InlineFragment}
 use Rattle.gql_model.specs.declared.selection.Field.{Field, out-Field, map-Field}
 use Rattle.gql_model.specs.declared.selection.InlineFragment.{InlineFragment}
 use Rattle.gql_numbering.specs.Parts.{selections_of, set_of_field, inner_set, inner_set_in}
-use Rattle.gql_numbering.specs.Beginnings.{Beginning, OfSet, Inside, itself, in_inner, in_selections, in_selection, in_field, in_inline, in_set, inside_set, inside_selection, beginnings_in, beginnings_in_optional, beginnings_at}
+use Rattle.gql_numbering.specs.Beginnings.{OfSet, Inside, in_inner, in_selections, in_selection, in_field, in_inline, in_set, inside_set, inside_selection, beginnings_in, beginnings_in_optional, beginnings_at}
 
 abbrev inside_field : Field → Option Inside
 inside_field = fold-Field (Option Inside) (Option Inside) Inside Inside in_selection in_field in_inline in_set

@@ -1,5 +1,5 @@
 -- The numbering that the pass makes is that of the document.
-use Rattle.std.proofs.Common.{◌≡◌, ℕ, ◌+◌, List, [], ◌∷◌, ◌++◌, Option, Some, None, map, length, refl, ap, sym, ◌∙◌, ◌⊎◌, inl, inr, arith, append_assoc, append-nil, length-append, subst}
+use Rattle.std.proofs.Common.{◌≡◌, ℕ, ◌+◌, List, [], ◌∷◌, ◌++◌, Option, Some, None, map, length, refl, ap, sym, ◌∙◌, inl, inr, arith, append_assoc, append-nil, length-append, subst}
 use Rattle.std.specs.Prelude.{slice_get, option_and_then}
 use Rattle.std.specs.List.{flat_map}
 use Rattle.std.proofs.lemmas.Option.{slice_get_cases, slice_get_past}
@@ -8,16 +8,15 @@ use Rattle.gql_model.specs.declared.selection.Field.{Field}
 use Rattle.gql_model.specs.declared.document.Definition.{Definition}
 use Rattle.gql_model.specs.declared.document.Document.{Document}
 use Rattle.gql_numbering.specs.declared.mark.Mark.{Mark}
-use Rattle.gql_numbering.specs.declared.mark.Spot.{Spot}
 use Rattle.gql_numbering.specs.declared.mark.Home.{Home}
 use Rattle.gql_numbering.specs.declared.mark.Home.TheVariants as home
 use Rattle.gql_numbering.specs.declared.numbering.Numbering.{Numbering}
 use Rattle.gql_numbering.specs.Parts.{set_of_definition}
-use Rattle.gql_numbering.specs.Beginnings.{Beginning, beginnings_in_optional, beginnings_in_definition, beginnings_of, sets_among, sets_of, fields_of}
-use Rattle.gql_numbering.specs.Marks.{front, behind, marks_before, marks_over}
+use Rattle.gql_numbering.specs.Beginnings.{Beginning, beginnings_in_optional, beginnings_in_definition, sets_among, sets_of, fields_of}
+use Rattle.gql_numbering.specs.Marks.{behind, marks_before, marks_over}
 use Rattle.gql_numbering.specs.Numbers.{set_hanging, field_at, Numbers}
 use Rattle.gql_numbering.specs.Numbered.{mark_in, numbered_optional, numbered_definition, numbered_definitions, empty, numbered}
-use Rattle.gql_numbering.proofs.Growth.{Grows, IsEven, behind-append, marks_over-append, grows-none, grows-append, grows-set, even_grown}
+use Rattle.gql_numbering.proofs.Growth.{Grows, IsEven, grows-none, grows-append, grows-set, even_grown}
 use Rattle.gql_numbering.proofs.Places.{slice_get-behind}
 use Rattle.gql_numbering.proofs.Sound.{Sound, Told, leads}
 
@@ -62,7 +61,7 @@ told_definitions ds before (d ∷ rest) at xs t s e f =
     let here : Numbering = record t { definitions = t.definitions ++ mark_in t ∷ [] } in
     let same : Told ds xs here = record { set_count = s.set_count; field_count = s.field_count; homes = s.homes; spots = s.spots } in
     let hangs : set_hanging ds (sets_among xs) (length (sets_among xs)) (Some (home.Definition at)) ≡ set_of_definition d =
-        ap (option_and_then set_of_definition) (ap (λ (zs : List Definition). slice_get zs at) e ∙ ap (slice_get (before ++ d ∷ rest)) f ∙ slice_get-behind before d rest) in
+    ap (option_and_then set_of_definition) (ap (λ (zs : List Definition). slice_get zs at) e ∙ ap (slice_get (before ++ d ∷ rest)) f ∙ slice_get-behind before d rest) in
     let told = optional_told (set_of_definition d) ds xs (home.Definition at) here same hangs in
     let u = numbered_definition d at t in
     let done = told_definitions ds (before ++ d ∷ []) rest (at + 1) (xs ++ beginnings_in_definition d) u told (e ∙ sym (append_assoc before (d ∷ []) rest)) (ap (λ n. n + 1) f ∙ sym (length-append before (d ∷ []))) in
@@ -73,13 +72,13 @@ nothing ds = record { set_count = refl; field_count = refl; homes = λ n set e. 
 
 homes_found : (ds : List Definition) (sets : List SelectionSet) (fields : List Field) (t : Numbering) → Sound ds sets fields t → (n : ℕ) → set_hanging ds sets n (slice_get t.homes n) ≡ slice_get sets n
 homes_found ds sets fields t s n = elim (slice_get_cases sets n).1 [
-    inl h ↦ (let found = s.homes n h.0 h.2 in ap (set_hanging ds sets n) found.1 ∙ found.2 ∙ sym h.2)
+  | inl h ↦ (let found = s.homes n h.0 h.2 in ap (set_hanging ds sets n) found.1 ∙ found.2 ∙ sym h.2)
   | inr h ↦ ap (set_hanging ds sets n) (slice_get_past t.homes n (omega (arith, s.set_count, h.0))) ∙ sym h.1
 ]
 
 spots_found : (ds : List Definition) (sets : List SelectionSet) (fields : List Field) (t : Numbering) → Sound ds sets fields t → (n : ℕ) → field_at sets (slice_get t.spots n) ≡ slice_get fields n
 spots_found ds sets fields t s n = elim (slice_get_cases fields n).1 [
-    inl h ↦ (let found = s.spots n h.0 h.2 in ap (field_at sets) found.1 ∙ found.2 ∙ sym h.2)
+  | inl h ↦ (let found = s.spots n h.0 h.2 in ap (field_at sets) found.1 ∙ found.2 ∙ sym h.2)
   | inr h ↦ ap (field_at sets) (slice_get_past t.spots n (omega (arith, s.field_count, h.0))) ∙ sym h.1
 ]
 

@@ -14,10 +14,10 @@ use Rattle.gql_numbering.specs.declared.numbering.Numbering.{Numbering}
 use Rattle.gql_numbering.specs.Parts.{selections_of, inner_set, as_field}
 use Rattle.gql_numbering.specs.Beginnings.{Beginning, OfSet, OfField, itself, beginnings_in, beginnings_in_optional, beginnings_at, sets_among, fields_among}
 use Rattle.gql_numbering.specs.Marks.{behind, marks_before, marks_over}
-use Rattle.gql_numbering.specs.Numbered.{mark_in, opened, with_field, closed, Turn, through, numbered_set, numbered_selection, numbered_optional}
+use Rattle.gql_numbering.specs.Numbered.{mark_in, opened, Turn, through, numbered_set, numbered_selection, numbered_optional}
 use Rattle.gql_numbering.proofs.Induction.{OfInner, OfEach, set_induction}
 use Rattle.gql_numbering.proofs.BeginningLaws.{beginnings_in-set}
-use Rattle.gql_numbering.proofs.NumberedLaws.{standing, numbered_at, numbered_level, numbered_selection-at, numbered_set-level}
+use Rattle.gql_numbering.proofs.NumberedLaws.{standing, numbered_level, numbered_selection-at, numbered_set-level}
 
 pub sets_among-append : (xs ys : List Beginning) → sets_among (xs ++ ys) ≡ sets_among xs ++ sets_among ys
 sets_among-append [] ys = refl
@@ -59,7 +59,7 @@ marks_over-append m (OfField f ∷ xs) ys =
     let n = behind m (OfField f ∷ []) in
     marks_over-append n xs ys ∙ ap (λ (k : Mark). marks_over n xs ++ marks_over k ys) (sym (behind-append m (OfField f ∷ []) xs))
 
-length-marks_over : (m : Mark) (xs : List Beginning) → length (marks_over m xs) ≡ length (sets_among xs)
+pub length-marks_over : (m : Mark) (xs : List Beginning) → length (marks_over m xs) ≡ length (sets_among xs)
 length-marks_over m [] = refl
 length-marks_over m (OfSet s ∷ xs) = ap suc (length-marks_over (behind m (OfSet s ∷ [])) xs)
 length-marks_over m (OfField f ∷ xs) = length-marks_over (behind m (OfField f ∷ [])) xs

@@ -1,5 +1,5 @@
 -- Induction over selection sets: what holds of a set where it holds of each set that its selections carry.
-use Rattle.std.proofs.Common.{◌≡◌, List, [], ◌∷◌, Option, Some, None, map, refl, subst, sym, ◌∙◌}
+use Rattle.std.proofs.Common.{List, [], ◌∷◌, Option, Some, None, map, subst, sym, ◌∙◌}
 use Rattle.gql_model.specs.declared.selection.SelectionSet.{SelectionSet}
 use Rattle.gql_model.specs.declared.selection.Selection.{Selection}
 use Rattle.gql_model.specs.declared.selection.Selection.TheOpen.{SelectionSet-F, Selection-F, Field-F, InlineFragment-F}

@@ -5,3 +5,5 @@ mod Growth
 mod Places
 mod Sound
 pub mod DocumentLaws
+mod Nested
+mod TellingLaws

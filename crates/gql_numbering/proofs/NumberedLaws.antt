@@ -1,5 +1,5 @@
 -- What numbering a set and a selection does, level by level.
-use Rattle.std.proofs.Common.{◌≡◌, List, [], ◌∷◌, Option, Some, None, map, length, refl, ap, ◌∙◌}
+use Rattle.std.proofs.Common.{◌≡◌, [], Option, Some, None, map, length, refl, ap, ◌∙◌}
 use Rattle.gql_model.specs.declared.selection.SelectionSet.{SelectionSet}
 use Rattle.gql_model.specs.declared.selection.Selection.{Selection, out-Selection, map-Selection}
 use Rattle.gql_model.specs.declared.selection.Selection.TheOpen.{Selection-F, Field-F}

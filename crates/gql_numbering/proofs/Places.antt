@@ -1,5 +1,5 @@
 -- Elements by their place in a list that grows at its end.
-use Rattle.std.proofs.Common.{◌≡◌, ℕ, zero, suc, List, [], ◌∷◌, ◌++◌, Option, Some, None, length, refl, ap, sym, ◌∙◌, ◌⊎◌, inl, inr, arith}
+use Rattle.std.proofs.Common.{◌≡◌, ℕ, zero, suc, ◌+◌, List, [], ◌∷◌, ◌++◌, Option, Some, None, length, refl, ap, ◌⊎◌, inl, inr, arith}
 use Rattle.std.specs.Prelude.{slice_get, option_and_then}
 
 pub slice_get-append : {X : Type 0} (xs ys : List X) (n : ℕ) (x : X) → slice_get xs n ≡ Some x → slice_get (xs ++ ys) n ≡ Some x
@@ -22,3 +22,12 @@ slice_get-pushed (z ∷ xs) y (suc n) x e = elim (slice_get-pushed xs y n x e) [
 pub and_then_some : {A B : Type 0} (f : A → Option B) (o : Option A) (b : B) → option_and_then f o ≡ Some b → (a : A) × (o ≡ Some a) × (f a ≡ Some b)
 and_then_some f None b e = absurd cc
 and_then_some f (Some a) b e = (a, refl, e)
+
+-- an element of two lists is in the first, or in the second at the place that is left
+pub slice_get-parts : {X : Type 0} (xs ys : List X) (n : ℕ) (x : X) → slice_get (xs ++ ys) n ≡ Some x → (slice_get xs n ≡ Some x) ⊎ ((k : ℕ) × (n ≡ length xs + k) × (slice_get ys k ≡ Some x))
+slice_get-parts [] ys n x e = let here : n ≡ 0 + n = omega arith in inr (n, here, e)
+slice_get-parts (z ∷ xs) ys zero x e = inl e
+slice_get-parts (z ∷ xs) ys (suc n) x e = elim (slice_get-parts xs ys n x e) [
+  | inl h ↦ inl h
+  | inr h ↦ (let there : suc n ≡ suc (length xs) + h.0 = omega (arith, h.1) in inr (h.0, there, h.2))
+]

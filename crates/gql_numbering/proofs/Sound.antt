@@ -1,5 +1,5 @@
 -- What numbering a part keeps: each number leads to what has it.
-use Rattle.std.proofs.Common.{◌≡◌, ℕ, ◌+◌, ◌<◌, Bool, true, false, List, [], ◌∷◌, ◌++◌, Option, Some, None, map, length, refl, ap, sym, ◌∙◌, ◌⊎◌, inl, inr, arith, append_assoc, append-nil, length-append, subst}
+use Rattle.std.proofs.Common.{◌≡◌, ℕ, ◌+◌, ◌<◌, Bool, true, false, List, [], ◌∷◌, ◌++◌, Option, Some, None, map, length, refl, ap, sym, ◌∙◌, inl, inr, append_assoc, append-nil, length-append, subst}
 use Rattle.std.specs.Prelude.{slice_get, option_and_then, nat_lt, if◌then◌else◌}
 use Rattle.std.specs.List.{flat_map}
 use Rattle.std.proofs.lemmas.Option.{slice_get_within}
@@ -12,13 +12,13 @@ use Rattle.gql_numbering.specs.declared.mark.Spot.{Spot}
 use Rattle.gql_numbering.specs.declared.mark.Home.{Home}
 use Rattle.gql_numbering.specs.declared.mark.Home.TheVariants as home
 use Rattle.gql_numbering.specs.declared.numbering.Numbering.{Numbering}
-use Rattle.gql_numbering.specs.Parts.{selections_of, inner_set, as_field, set_of_definition}
+use Rattle.gql_numbering.specs.Parts.{selections_of, inner_set, as_field}
 use Rattle.gql_numbering.specs.Beginnings.{Beginning, OfSet, OfField, itself, beginnings_in, beginnings_in_optional, beginnings_at, sets_among, fields_among}
 use Rattle.gql_numbering.specs.Numbers.{selection_at, field_at, set_hanging}
-use Rattle.gql_numbering.specs.Numbered.{opened, with_field, closed, Turn, through, numbered_set, numbered_selection, numbered_optional, mark_in}
+use Rattle.gql_numbering.specs.Numbered.{opened, with_field, Turn, through, numbered_set, numbered_selection, numbered_optional, mark_in}
 use Rattle.gql_numbering.proofs.Induction.{OfInner, OfEach, set_induction}
 use Rattle.gql_numbering.proofs.BeginningLaws.{beginnings_in-set}
-use Rattle.gql_numbering.proofs.NumberedLaws.{standing, numbered_at, numbered_level, numbered_selection-at, numbered_set-level}
+use Rattle.gql_numbering.proofs.NumberedLaws.{standing, numbered_level, numbered_selection-at, numbered_set-level}
 use Rattle.gql_numbering.proofs.Growth.{sets_among-append, fields_among-append}
 use Rattle.gql_numbering.proofs.Places.{slice_get-append, slice_get-behind, slice_get-pushed, and_then_some}
 
@@ -58,11 +58,11 @@ sound_set ds sets fields t here set s e =
       set_count = length-append t.homes (here ∷ []) ∙ ap (λ n. n + 1) s.set_count ∙ sym (length-append sets (set ∷ []));
       field_count = s.field_count;
       homes = λ n y g. elim (slice_get-pushed sets set n y g) as (λ w. (x : Home) × (slice_get (t.homes ++ here ∷ []) n ≡ Some x) × (set_hanging ds (sets ++ set ∷ []) n (Some x) ≡ Some y)) [
-          inl h ↦ (let found = s.homes n y h in (found.0, slice_get-append t.homes (here ∷ []) n found.0 found.1, home_stays ds sets (set ∷ []) n found.0 y found.2))
+        | inl h ↦ (let found = s.homes n y h in (found.0, slice_get-append t.homes (here ∷ []) n found.0 found.1, home_stays ds sets (set ∷ []) n found.0 y found.2))
         | inr h ↦
-          (let place : n ≡ length t.homes = h.0 ∙ sym s.set_count in
-          let hangs : set_hanging ds sets n (Some here) ≡ Some y = ap (λ k. set_hanging ds sets k (Some here)) h.0 ∙ e ∙ ap Some h.1 in
-          (here, ap (slice_get (t.homes ++ here ∷ [])) place ∙ slice_get-behind t.homes here [], home_stays ds sets (set ∷ []) n here y hangs))
+            (let place : n ≡ length t.homes = h.0 ∙ sym s.set_count in
+            let hangs : set_hanging ds sets n (Some here) ≡ Some y = ap (λ k. set_hanging ds sets k (Some here)) h.0 ∙ e ∙ ap Some h.1 in
+            (here, ap (slice_get (t.homes ++ here ∷ [])) place ∙ slice_get-behind t.homes here [], home_stays ds sets (set ∷ []) n here y hangs))
       ];
       spots = λ n f g. let found = s.spots n f g in (found.0, found.1, field_stays sets (set ∷ []) found.0 f found.2);
     }
@@ -75,10 +75,10 @@ sound_field ds sets fields t spot field s e =
       field_count = length-append t.spots (spot ∷ []) ∙ ap (λ n. n + 1) s.field_count ∙ sym (length-append fields (field ∷ []));
       homes = s.homes;
       spots = λ n y g. elim (slice_get-pushed fields field n y g) as (λ w. (x : Spot) × (slice_get (t.spots ++ spot ∷ []) n ≡ Some x) × (field_at sets (Some x) ≡ Some y)) [
-          inl h ↦ (let found = s.spots n y h in (found.0, slice_get-append t.spots (spot ∷ []) n found.0 found.1, found.2))
+        | inl h ↦ (let found = s.spots n y h in (found.0, slice_get-append t.spots (spot ∷ []) n found.0 found.1, found.2))
         | inr h ↦
-          (let place : n ≡ length t.spots = h.0 ∙ sym s.field_count in
-          (spot, ap (slice_get (t.spots ++ spot ∷ [])) place ∙ slice_get-behind t.spots spot [], e ∙ ap Some h.1))
+            (let place : n ≡ length t.spots = h.0 ∙ sym s.field_count in
+            (spot, ap (slice_get (t.spots ++ spot ∷ [])) place ∙ slice_get-behind t.spots spot [], e ∙ ap Some h.1))
       ];
     }
 
@@ -143,7 +143,7 @@ told_through [] each ds xs set number front at turn s e f g = subst (λ (ys : Li
 told_through (x ∷ rest) each ds xs set number front at turn s e f g =
     let spot : Spot = record { set = number; at = at } in
     let here : selection_at (sets_among xs) spot ≡ Some x =
-        ap (option_and_then (λ set. slice_get (selections_of set) at)) e ∙ ap (λ (zs : List Selection). slice_get zs at) f ∙ ap (slice_get (front ++ x ∷ rest)) g ∙ slice_get-behind front x rest in
+    ap (option_and_then (λ set. slice_get (selections_of set) at)) e ∙ ap (λ (zs : List Selection). slice_get zs at) f ∙ ap (slice_get (front ++ x ∷ rest)) g ∙ slice_get-behind front x rest in
     let ys = xs ++ beginnings_at x in
     let u = numbered_selection x spot turn.numbering in
     let told = told_selection x each.0 ds xs spot turn.numbering s here in
@@ -158,7 +158,7 @@ leads_level set each ds xs here t s e =
     let ys = xs ++ OfSet set ∷ [] in
     let told = told_set ds xs t here set s e in
     let found : slice_get (sets_among ys) number ≡ Some set =
-        ap (λ (zs : List SelectionSet). slice_get zs number) (sets_among-append xs (OfSet set ∷ [])) ∙ ap (slice_get (sets_among xs ++ set ∷ [])) s.set_count ∙ slice_get-behind (sets_among xs) set [] in
+    ap (λ (zs : List SelectionSet). slice_get zs number) (sets_among-append xs (OfSet set ∷ [])) ∙ ap (slice_get (sets_among xs ++ set ∷ [])) s.set_count ∙ slice_get-behind (sets_among xs) set [] in
     let start : Turn = record { marks = []; numbering = opened here t } in
     let done = told_through (selections_of set) each ds ys set number [] 0 start told found refl refl in
     let inner = flat_map beginnings_at (selections_of set) in

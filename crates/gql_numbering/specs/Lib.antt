@@ -3,3 +3,4 @@ pub mod Beginnings
 pub mod Marks
 pub mod Numbers
 pub mod Numbered
+pub mod Telling

@@ -1,5 +1,5 @@
 -- How many selection sets and fields begin before a point of a document: the numbers that the next ones have.
-use Rattle.std.specs.Prelude.{ℕ, ◌+◌, List, [], ◌∷◌, map, length}
+use Rattle.std.specs.Prelude.{◌+◌, List, [], ◌∷◌, map, length}
 use Rattle.gql_model.specs.declared.document.Document.{Document}
 use Rattle.gql_numbering.specs.declared.mark.Mark.{Mark}
 use Rattle.gql_numbering.specs.Parts.{selections_of}

@@ -29,10 +29,20 @@ fn number_definition(
     numbering.push_definition()?;
     match definition {
         Definition::Operation(operation) => {
-            number_set(alloc, &operation.selection_set, Home::Definition(at), numbering)
+            number_set(
+                alloc,
+                &operation.selection_set,
+                Home::Definition(at),
+                numbering,
+            )
         }
         Definition::Fragment(fragment) => {
-            number_set(alloc, &fragment.selection_set, Home::Definition(at), numbering)
+            number_set(
+                alloc,
+                &fragment.selection_set,
+                Home::Definition(at),
+                numbering,
+            )
         }
         Definition::TypeSystem(_) => Ok(()),
     }
@@ -74,7 +84,12 @@ fn number_selection(
         Selection::Field(field) => number_field(alloc, field, spot, numbering),
         Selection::Spread(_) => Ok(()),
         Selection::Inline(fragment) => {
-            number_set(alloc, &fragment.selection_set, Home::Selection(spot), numbering)
+            number_set(
+                alloc,
+                &fragment.selection_set,
+                Home::Selection(spot),
+                numbering,
+            )
         }
     }
 }

@@ -68,7 +68,9 @@ impl Numbering {
     fn selection<'a>(&self, document: &'a Document, spot: Spot) -> Option<&'a Selection>
         ensures { Numbers self.now document.now → option_copied result ≡ selection_at (sets_of document.now) spot }
     {
-        self.set(document, spot.set)?.selections.get(spot.at as usize)
+        self.set(document, spot.set)?
+            .selections
+            .get(spot.at as usize)
     }
 
     /// The field with this number, where the numbering is that of the document. It takes as many
