@@ -1,0 +1,5 @@
+pub mod Again
+pub mod Folds
+pub mod Joining
+pub mod Utf8
+pub mod Writing
