@@ -1,5 +1,5 @@
 -- The tokens that a tree is written as derive it again, places aside; the laws of the grammar's parts.
-use Rattle.std.proofs.Common.{◌≡◌, ℕ, zero, suc, Bool, true, false, List, [], ◌∷◌, ◌++◌, map, Option, Some, None, refl, sym, ap, ap₂, subst, ◌∙◌, inl, inr, ◌⊎◌}
+use Rattle.std.proofs.Common.{◌≡◌, ℕ, zero, suc, Bool, true, false, List, [], ◌∷◌, ◌++◌, map, Option, Some, None, refl, sym, ap, ap₂, subst, ◌∙◌, inl, inr}
 use Rattle.std.specs.Prelude.{is_some}
 use Rattle.std.specs.Option.{option_map}
 use Rattle.gql_tokens.specs.Tokens.{Token}
@@ -7,7 +7,7 @@ use Rattle.gql_tokens.specs.declared.token.Kind.{Kind}
 use Rattle.gql_tokens.specs.declared.token.Place.{Place}
 use Rattle.gql_spelling.specs.Spelling.{bare, mark_of, IsTextOf, AreSpelled, ArePrintable}
 use Rattle.gql_model.specs.Sorts.{Sort, is_in, mark}
-use Rattle.gql_model.specs.Rules.{Rule, One, The, the, unit_if, Seq, Opt, Many, Made, Whether, Either, Unless, Here, Behind, Before, Between, Nested, Depth, More, Perhaps, place_of, last, former, cons, or_none}
+use Rattle.gql_model.specs.Rules.{Rule, The, unit_if, Seq, Opt, Many, Made, Whether, Either, Unless, Here, Behind, Before, Between, Nested, Depth, More, Perhaps, place_of, last, former, cons, or_none}
 use Rattle.gql_printing.specs.Tokens.{token, punctuator, joined, optional, grouped}
 use Rattle.gql_printing.proofs.Joining.{Toks, Joins, is_calm, joins_nil, joins_one, joins_append, joins_between}
 

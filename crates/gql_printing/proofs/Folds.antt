@@ -1,5 +1,5 @@
 -- The tokens of one level of a tree.
-use Rattle.std.proofs.Common.{◌≡◌, List, [], ◌∷◌, ◌++◌, Option, Some, None, refl, ◌∙◌}
+use Rattle.std.proofs.Common.{◌≡◌, List, ◌∷◌, ◌++◌, Option, Some, None, refl, ◌∙◌}
 use Rattle.std.specs.Option.{option_map}
 use Rattle.gql_model.specs.declared.name.Name.{Name}
 use Rattle.gql_model.specs.declared.selection.Argument.{Argument}
@@ -8,8 +8,7 @@ use Rattle.gql_model.specs.declared.selection.SelectionSet.{SelectionSet}
 use Rattle.gql_model.specs.declared.selection.Selection.{Selection}
 use Rattle.gql_model.specs.declared.selection.InlineFragment.{InlineFragment}
 use Rattle.gql_model.specs.declared.selection.Field.{Field, out-Field}
-use Rattle.gql_model.specs.declared.selection.Selection.TheOpen.{Field-F}
-use Rattle.gql_model.specs.declared.selection.Selection.TheFolds.{map-Field, fold-Selection, fold-Field, fold-InlineFragment, fold-SelectionSet, fold_out-Field}
+use Rattle.gql_model.specs.declared.selection.Selection.TheFolds.{map-Field, fold_out-Field}
 use Rattle.gql_printing.specs.Tokens.{word, optional}
 use Rattle.gql_printing.specs.Selections.{Toks, field_step, inline_step, selection_step, set_step, selection_tokens, field_tokens, inline_tokens, set_tokens, alias_tokens, arguments_tokens, directives_tokens, or_nothing}
 

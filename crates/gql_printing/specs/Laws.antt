@@ -1,5 +1,5 @@
 -- What the canonical text of a document is read as.
-use Rattle.std.specs.Prelude.{◌≡◌, ◌≤◌, ℕ, List, Result, Ok}
+use Rattle.std.specs.Prelude.{◌≡◌, ℕ, List}
 use Rattle.gql_model.specs.declared.document.Document.{Document}
 use Rattle.gql_model.specs.Documents.{IsDocument}
 use Rattle.gql_printing.specs.Documents.{canonical_text}
@@ -8,4 +8,4 @@ use Rattle.gql_printing.specs.Places.{without_places}
 -- the tokens of the canonical text derive the document again, places aside, where the tokens of some text derive it
 abbrev pub CanonicalTextIsItsDocument : Type 0
 CanonicalTextIsItsDocument = (text : List ℕ) (document : Document) → IsDocument text document
-    → (again : Document) × (IsDocument (canonical_text document) again × (without_places again ≡ without_places document))
+    → (again : Document) × IsDocument (canonical_text document) again × (without_places again ≡ without_places document)

@@ -1,5 +1,5 @@
 -- Documents without their places: each place is set to the first place of a text.
-use Rattle.std.specs.Prelude.{ℕ, List, map, Option}
+use Rattle.std.specs.Prelude.{List, map}
 use Rattle.std.specs.Option.{option_map}
 use Rattle.gql_tokens.specs.Places.{first_place}
 use Rattle.gql_model.specs.declared.name.Name.{Name}

@@ -1,5 +1,5 @@
 -- How far a text has been written.
-use Rattle.std.specs.Prelude.{ℕ, Bool, true, false, ◌&&◌, if◌then◌else◌, List, [], ◌∷◌, ◌++◌, codes}
+use Rattle.std.specs.Prelude.{ℕ, Bool, false, ◌&&◌, if◌then◌else◌, List, [], ◌∷◌, ◌++◌, codes}
 use Rattle.gql_tokens.specs.Tokens.{Token}
 use Rattle.gql_tokens.specs.declared.token.Kind.{Kind}
 use Rattle.gql_spelling.specs.Spelling.{is_word}

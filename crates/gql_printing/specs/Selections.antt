@@ -1,5 +1,5 @@
 -- The tokens of selection sets, arguments and directives (GraphQL October 2021, 2.4 to 2.8 and 2.12).
-use Rattle.std.specs.Prelude.{ℕ, List, [], ◌∷◌, ◌++◌, Option, Some, None, map, codes}
+use Rattle.std.specs.Prelude.{List, [], ◌∷◌, ◌++◌, Option, Some, None, map, codes}
 use Rattle.gql_tokens.specs.Tokens.{Token}
 use Rattle.gql_tokens.specs.declared.token.Kind.TheVariants as kind
 use Rattle.gql_model.specs.declared.name.Name.{Name}

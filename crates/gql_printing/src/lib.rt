@@ -10,6 +10,7 @@
 mod appending;
 mod documents;
 mod executables;
+mod laws;
 mod literals;
 mod print;
 mod printer;
@@ -19,3 +20,4 @@ mod type_systems;
 mod types;
 
 pub use documents::print_document;
+pub use laws::canonical_text_is_its_document;

@@ -1,6 +1,5 @@
-use Rattle.std.proofs.Common.{◌+◌, List, drop, ap, ◌∙◌, ◌≡◌, ◌++◌, sym}
+use Rattle.std.proofs.Common.{◌+◌, drop, ap, ◌∙◌, ◌++◌, sym}
 use Rattle.std.specs.Prelude.{Bool}
-use Rattle.gql_model.specs.declared.document.Definition.{Definition}
 use Rattle.gql_printing.specs.Documents.{definition_tokens, definitions_tokens}
 use Rattle.gql_printing.proofs.Writing.{drop_turn, turn}
 use Rattle.gql_printing.proofs.documents.print_definitions.Goals as goal

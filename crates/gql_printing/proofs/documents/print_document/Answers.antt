@@ -1,4 +1,4 @@
-use Rattle.std.proofs.Common.{◌≡◌, ◌∙◌, List, ap}
+use Rattle.std.proofs.Common.{◌∙◌, List, ap}
 use Rattle.std.specs.Prelude.{true}
 use Rattle.gql_model.specs.declared.document.Definition.{Definition}
 use Rattle.gql_printing.specs.Documents.{definitions_tokens, document_tokens}
