@@ -8,8 +8,8 @@ use Rattle.gql_tokens.specs.declared.token.Place.{Place}
 use Rattle.gql_spelling.specs.Spelling.{bare, mark_of, IsTextOf, AreSpelled, ArePrintable}
 use Rattle.gql_model.specs.Sorts.{Sort, is_in, mark}
 use Rattle.gql_model.specs.Rules.{Rule, The, unit_if, Seq, Opt, Many, Made, Whether, Either, Unless, Here, Behind, Before, Between, Nested, Depth, More, Perhaps, place_of, last, former, cons, or_none}
-use Rattle.gql_printing.specs.Tokens.{token, punctuator, joined, optional, grouped}
-use Rattle.gql_printing.proofs.Joining.{Toks, Joins, is_calm, joins_nil, joins_one, joins_append, joins_between}
+use Rattle.gql_printing.specs.Tokens.{Toks, token, punctuator, joined, optional, grouped}
+use Rattle.gql_printing.proofs.Joining.{Joins, is_calm, joins_nil, joins_one, joins_append, joins_between}
 
 -- tokens without their places
 abbrev pub bares : Toks → List (Kind × List ℕ)

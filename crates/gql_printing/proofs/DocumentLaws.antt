@@ -15,12 +15,12 @@ use Rattle.gql_model.specs.declared.type_system.TypeSystemForm.{TypeSystemForm}
 use Rattle.gql_model.specs.declared.type_system.TypeSystemForm.TheVariants as form
 use Rattle.gql_model.specs.Sorts.{Sort, starts, mark}
 use Rattle.gql_model.specs.Documents.{of_operation, of_fragment, of_type_system, DefinitionRule, is_none_of, leaves_out_braces, takes_brace, goes_on_with, DefinitionsRule}
-use Rattle.gql_printing.specs.Tokens.{optional}
+use Rattle.gql_printing.specs.Tokens.{Toks, optional}
 use Rattle.gql_printing.specs.TypeSystems.{description_tokens, form_tokens}
 use Rattle.gql_printing.specs.Documents.{definition_tokens, lets_short_form_follow, definitions_tokens, document_tokens}
 use Rattle.gql_printing.specs.Places.{bare_form, bare_definition}
 use Rattle.gql_printing.specs.Laws.{CanonicalTextIsItsDocument}
-use Rattle.gql_printing.proofs.Joining.{Toks, joins_nil, joins_append}
+use Rattle.gql_printing.proofs.Joining.{joins_nil, joins_append}
 use Rattle.gql_printing.proofs.Again.{Again, Spells, bares, empty, single, cut, spelled_append, printable_left, printable_right, spells_as, spells_either}
 use Rattle.gql_printing.proofs.Tokens.{bare_sorts}
 use Rattle.gql_printing.proofs.ExecutableLaws.{spells_operation, spells_fragment}
@@ -101,8 +101,8 @@ stops : (d again : Definition) (all : List Definition) (ts : Toks) → bare_defi
 stops d again all ts same e =
     choice (λ (sorts : List Sort). starts sorts ts ≡ false) (takes_brace again) brace []
     (λ takes.
-        let short = brace_is_last d (sym (same_brace d) ∙ ap takes_brace (sym same) ∙ same_brace again ∙ takes) in
-        same_starts brace ts (definitions_tokens (lets_short_form_follow d) all) e ∙ ap (λ (s : Bool). starts brace (definitions_tokens s all)) short ∙ no_brace_follows all)
+    let short = brace_is_last d (sym (same_brace d) ∙ ap takes_brace (sym same) ∙ same_brace again ∙ takes) in
+    same_starts brace ts (definitions_tokens (lets_short_form_follow d) all) e ∙ ap (λ (s : Bool). starts brace (definitions_tokens s all)) short ∙ no_brace_follows all)
     (λ _. none_start ts)
 
 -- ---- all definitions
@@ -144,8 +144,7 @@ canonical_again text document d =
     let lexed = lexes_again written h.spelled apart ∙ sym (map-append bare written (end_token ∷ [])) in
     let m = cut written (end_token ∷ []) (tokens_of (spaced written)) lexed in
     let one = single (kind.End, []) m.right m.second in
-    let x = h.again m.left m.first in
-    (
+    let x = h.again m.left m.first in (
       record { definitions = x.0 },
       (m.left, one.0, m.whole ∙ ap (λ (r : Toks). m.left ++ r) one.1, ap (λ (k : Kind × List ℕ). k.0) one.2, (λ e. d.4.0 (none_left all (sym x.2 ∙ ap (map bare_definition) e)), x.1)),
       ap (λ (definitions : List Definition). record { definitions = definitions }) x.2,

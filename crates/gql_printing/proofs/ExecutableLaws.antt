@@ -21,11 +21,11 @@ use Rattle.gql_model.specs.Rules.{Rule, Seq, Opt, Perhaps, place_of}
 use Rattle.gql_model.specs.Names.{NameRule}
 use Rattle.gql_model.specs.Selections.{DirectivesRule, SetRule}
 use Rattle.gql_model.specs.Executables.{kind_of, KindRule, DefaultRule, variable_definition_of, VariableDefinitionRule, VariablesRule, short_of, long_of, OperationRule, fragment_of, FragmentRule}
-use Rattle.gql_printing.specs.Tokens.{word, optional, grouped}
+use Rattle.gql_printing.specs.Tokens.{Toks, word, optional, grouped}
 use Rattle.gql_printing.specs.Selections.{directives_tokens, set_tokens}
 use Rattle.gql_printing.specs.Executables.{kind_word, name_tokens, default_tokens, variable_definition_tokens, is_query, has_short_form, long_form_tokens, operation_tokens, fragment_tokens}
 use Rattle.gql_printing.specs.Places.{bare_name, bare_literal, bare_directives, bare_set, bare_variable_definition, bare_operation, bare_fragment}
-use Rattle.gql_printing.proofs.Joining.{Toks, joins_nil, joins_one}
+use Rattle.gql_printing.proofs.Joining.{joins_nil, joins_one}
 use Rattle.gql_printing.proofs.Again.{Again, Spells, printable_left, printable_right, empty, single, again_seq, again_none, again_nil, spells_seq, spells_made, spells_here, spells_opt, spells_behind, spells_grouped, both}
 use Rattle.gql_printing.proofs.Tokens.{plain_calm, dollar, colon, equals, paren_open, paren_close, keyword, spells_name, spells_fragment_name}
 use Rattle.gql_printing.proofs.ValueLaws.{spells_value, spells_type}

@@ -9,8 +9,8 @@ use Rattle.gql_model.specs.declared.selection.Selection.{Selection}
 use Rattle.gql_model.specs.declared.selection.InlineFragment.{InlineFragment}
 use Rattle.gql_model.specs.declared.selection.Field.{Field, out-Field}
 use Rattle.gql_model.specs.declared.selection.Selection.TheFolds.{map-Field, fold_out-Field}
-use Rattle.gql_printing.specs.Tokens.{word, optional}
-use Rattle.gql_printing.specs.Selections.{Toks, field_step, inline_step, selection_step, set_step, selection_tokens, field_tokens, inline_tokens, set_tokens, alias_tokens, arguments_tokens, directives_tokens, or_nothing}
+use Rattle.gql_printing.specs.Tokens.{Toks, word, optional}
+use Rattle.gql_printing.specs.Selections.{field_step, inline_step, selection_step, set_step, selection_tokens, field_tokens, inline_tokens, set_tokens, alias_tokens, arguments_tokens, directives_tokens, or_nothing}
 
 -- a field's tokens, part by part
 abbrev pub field_form : Option Name → Name → List Argument → List Directive → Option SelectionSet → Toks

@@ -1,12 +1,10 @@
 -- No integer stands directly before `...`, part by part.
-use Rattle.std.proofs.Common.{◌≡◌, Bool, true, false, List, [], ◌∷◌, ◌++◌, sym, ap, subst, ◌∙◌, append_assoc, append-nil}
+use Rattle.std.proofs.Common.{◌≡◌, Bool, true, false, [], ◌∷◌, ◌++◌, sym, ap, subst, ◌∙◌, append_assoc, append-nil}
 use Rattle.gql_tokens.specs.Tokens.{Token}
 use Rattle.gql_tokens.specs.declared.token.Kind.{Kind}
 use Rattle.gql_tokens.specs.declared.token.Kind.TheVariants.{Integer, Spread}
 use Rattle.gql_spelling.specs.Spelling.{IsApart, StandApart}
-
-abbrev pub Toks : Type 0
-Toks = List Token
+use Rattle.gql_printing.specs.Tokens.{Toks}
 
 -- Of two classes of parts one has no `...` at its front, the other no integer at its end. A token is of both but for these two kinds.
 abbrev pub is_calm : Bool → Kind → Bool

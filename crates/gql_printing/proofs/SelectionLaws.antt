@@ -18,14 +18,13 @@ use Rattle.gql_model.specs.Sorts as sorts
 use Rattle.gql_model.specs.Names.{NameRule}
 use Rattle.gql_model.specs.Rules.{Rule, Either, Behind, Perhaps}
 use Rattle.gql_model.specs.Selections.{argument_of, ArgumentRule, ArgumentsRule, directive_of, DirectiveRule, DirectivesRule, field_of, FieldRule, field_selection, spread_of, SpreadRule, inline_of, InlineRule, SpreadingRule, SelectionRule, set_of, SetOver, SetRule}
-use Rattle.gql_printing.specs.Tokens.{punctuator, word, joined, optional}
+use Rattle.gql_printing.specs.Tokens.{Toks, punctuator, word, joined, optional}
 use Rattle.gql_printing.specs.Selections as tokens
 use Rattle.gql_printing.specs.Selections.{argument_tokens, arguments_tokens, directive_tokens, directives_tokens, spread_tokens, condition_tokens, or_nothing, set_tokens, selection_tokens, field_tokens, inline_tokens}
 use Rattle.gql_printing.specs.Executables.{name_tokens}
 use Rattle.gql_printing.specs.Places as places
 use Rattle.gql_printing.specs.Places.{bare_name, bare_argument, bare_directive, bare_directives, bare_field, bare_inline, bare_selection, bare_set}
 use Rattle.gql_printing.proofs.Folds.{field_form, field_layer}
-use Rattle.gql_printing.proofs.Joining.{Toks}
 use Rattle.gql_printing.proofs.Again.{Again, Spells, spells_seq, spells_as, spells_made, spells_either, spells_here, spells_opt, spells_many, spells_more, spells_behind, spells_between, spells_grouped, spells_nested, both, both_tokens}
 use Rattle.gql_printing.proofs.Tokens.{paren_open, paren_close, colon, at, brace_open, brace_close, spread, keyword, spells_name, spells_fragment_name}
 use Rattle.gql_printing.proofs.ValueLaws.{spells_value}

@@ -22,10 +22,10 @@ use Rattle.gql_model.specs.Rules.{Rule, Opt, Seq, Many, Made, Behind, Perhaps, c
 use Rattle.gql_model.specs.Names.{NameRule}
 use Rattle.gql_model.specs.TypeSystems as grammar
 use Rattle.gql_model.specs.TypeSystems.{string_in, DescriptionRule, Braced, ListedBy, RootRule, SchemaRule, ScalarRule, InputRule, InputsRule, FieldDefinitionRule, ImplementsRule, CompositeRule, ObjectTypeRule, InterfaceRule, UnionRule, EnumValueRule, EnumRule, InputObjectRule, DirectiveDefinitionRule, FormRule, TypeSystemRule}
-use Rattle.gql_printing.specs.Tokens.{word, optional, punctuator, string, listed}
+use Rattle.gql_printing.specs.Tokens.{Toks, word, optional, punctuator, string, listed}
 use Rattle.gql_printing.specs.TypeSystems.{description_tokens, braced, root_tokens, input_tokens, inputs_tokens, field_definition_tokens, enum_value_tokens, implements_tokens, members_tokens, repeatable_tokens, composite_tokens, form_tokens, type_system_tokens}
 use Rattle.gql_printing.specs.Places.{bare_names, bare_root, bare_input, bare_field_definition, bare_enum_value, bare_composite, bare_form, bare_type_system}
-use Rattle.gql_printing.proofs.Joining.{Toks, joins_one}
+use Rattle.gql_printing.proofs.Joining.{joins_one}
 use Rattle.gql_printing.proofs.Again.{Again, Spells, Fixed, printable_right, single, joined_by, spells_seq, spells_as, spells_made, spells_either, spells_here, spells_opt, spells_many, spells_more, spells_behind, spells_between, spells_perhaps, some_between, spells_grouped, spells_whether}
 use Rattle.gql_printing.proofs.Tokens.{plain_calm, ampersand, paren_open, paren_close, colon, equals, at, brace_open, brace_close, pipe, keyword, spells_name, spells_enum_name}
 use Rattle.gql_printing.proofs.ValueLaws.{spells_type}

@@ -24,14 +24,14 @@ use Rattle.gql_model.specs.declared.type_ref.TypeRef.TheOpen.{TypeRef-F}
 use Rattle.gql_model.specs.Rules.{Rule}
 use Rattle.gql_model.specs.Literals.{plain_value, PlainRule, string_of, named_value, variable_of, list_of, object_of, literal_of, object_field_of, ListRule, ObjectRule, ObjectFieldRule, VariableRule, ValueOver, ValueRule}
 use Rattle.gql_model.specs.Types.{type_of, of_name, of_type, TypeOver, TypeRule}
-use Rattle.gql_printing.specs.Tokens.{token, punctuator, word}
+use Rattle.gql_printing.specs.Tokens.{Toks, token, punctuator, word}
 use Rattle.gql_printing.specs.Literals as tokens
 use Rattle.gql_printing.specs.Literals.{literal_tokens, value_tokens, object_field_tokens}
 use Rattle.gql_printing.specs.Types.{type_tokens, type_step, bang_tokens}
 use Rattle.gql_printing.specs.Places as places
 use Rattle.gql_printing.specs.Places.{bare_name, bare_literal, bare_value, bare_object_field, bare_type}
 use Rattle.gql_printing.specs.Executables.{name_tokens}
-use Rattle.gql_printing.proofs.Joining.{Toks, is_calm, joins_one}
+use Rattle.gql_printing.proofs.Joining.{is_calm, joins_one}
 use Rattle.gql_printing.proofs.Again.{Again, Spells, single, spells_seq, spells_as, spells_made, spells_either, spells_unless, spells_here, spells_many, spells_behind, spells_between, spells_whether, spells_nested, both, both_tokens}
 use Rattle.gql_printing.proofs.Tokens.{bang, dollar, colon, bracket_open, bracket_close, brace_open, brace_close, spells_name}
 

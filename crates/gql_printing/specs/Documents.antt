@@ -1,4 +1,4 @@
--- The canonical text of documents.
+-- The canonical text of documents (GraphQL October 2021, 2.2; the spaces and the short form: own).
 use Rattle.std.specs.Prelude.{ℕ, Bool, true, false, List, [], ◌∷◌, ◌++◌}
 use Rattle.gql_tokens.specs.Tokens.{Token}
 use Rattle.gql_spelling.specs.Spelling.{spaced}
@@ -8,6 +8,7 @@ use Rattle.gql_model.specs.declared.document.Definition.TheVariants as definitio
 use Rattle.gql_printing.specs.Executables.{operation_tokens, fragment_tokens}
 use Rattle.gql_printing.specs.TypeSystems.{type_system_tokens}
 
+-- a definition, in the short form where it may stand and there is one
 abbrev pub definition_tokens : Bool → Definition → List Token
 definition_tokens short (definition.Operation d) = operation_tokens short d
 definition_tokens short (definition.Fragment d) = fragment_tokens d
@@ -23,6 +24,7 @@ abbrev pub definitions_tokens : Bool → List Definition → List Token
 definitions_tokens short [] = []
 definitions_tokens short (d ∷ all) = definition_tokens short d ++ definitions_tokens (lets_short_form_follow d) all
 
+-- the tokens of a document (2.2)
 abbrev pub document_tokens : Document → List Token
 document_tokens d = definitions_tokens true d.definitions
 

@@ -21,26 +21,31 @@ kind_word Query = codes "query"
 kind_word Mutation = codes "mutation"
 kind_word Subscription = codes "subscription"
 
+-- a name
 abbrev pub name_tokens : Name → List Token
 name_tokens name = word name.text ∷ []
 
+-- a default value (2.10)
 abbrev pub default_tokens : Literal → List Token
 default_tokens value = punctuator kind.Equals ∷ literal_tokens value
 
+-- the definition of a variable (2.10)
 abbrev pub variable_definition_tokens : VariableDefinition → List Token
 variable_definition_tokens v =
     punctuator kind.Dollar ∷ word v.name.text ∷ punctuator kind.Colon
     ∷ (type_tokens v.variable_type.type_ref ++ (optional default_tokens v.default ++ directives_tokens v.directives))
 
+-- it is a query, and not another kind of operation
 abbrev pub is_query : OperationKind → Bool
 is_query Query = true
 is_query Mutation = false
 is_query Subscription = false
 
--- it is an anonymous query without variables and directives, which has a short form
+-- it is an anonymous query without variables and directives, which has a short form (2.3, query shorthand)
 abbrev pub has_short_form : Operation → Bool
 has_short_form o = is_query o.kind && is_none o.name && is_none_of o.variables && is_none_of o.directives
 
+-- an operation with its kind (2.3)
 abbrev pub long_form_tokens : Operation → List Token
 long_form_tokens o =
     word (kind_word o.kind)
@@ -50,6 +55,7 @@ long_form_tokens o =
 abbrev pub operation_tokens : Bool → Operation → List Token
 operation_tokens short o = if short && has_short_form o then set_tokens o.selection_set else long_form_tokens o
 
+-- the definition of a fragment (2.8)
 abbrev pub fragment_tokens : Fragment → List Token
 fragment_tokens f =
     word (codes "fragment") ∷ word f.name.text ∷ (condition_tokens f.type_condition ++ (directives_tokens f.directives ++ set_tokens f.selection_set))

@@ -14,12 +14,15 @@ abbrev pub boolean_word : Bool → List ℕ
 boolean_word true = codes "true"
 boolean_word false = codes "false"
 
+-- a variable (2.10)
 abbrev pub variable_tokens : List ℕ → List Token
 variable_tokens name = punctuator kind.Dollar ∷ word name ∷ []
 
+-- a list, where each value is its tokens already (2.9.7)
 abbrev pub list_tokens : List (List Token) → List Token
 list_tokens values = punctuator kind.BracketOpen ∷ (joined values ++ punctuator kind.BracketClose ∷ [])
 
+-- an object, where each field is its tokens already (2.9.8)
 abbrev pub object_tokens : List (List Token) → List Token
 object_tokens fields = punctuator kind.BraceOpen ∷ (joined fields ++ punctuator kind.BraceClose ∷ [])
 
@@ -34,6 +37,7 @@ value_step (LiteralValue-F.Enum name) = word name ∷ []
 value_step (LiteralValue-F.List values) = list_tokens values
 value_step (LiteralValue-F.Object fields) = object_tokens fields
 
+-- a value in its place
 abbrev pub literal_step : Literal-F (List Token) (List Token) (List Token) → List Token
 literal_step l = l.value
 
@@ -45,8 +49,10 @@ field_step f = word f.name.text ∷ punctuator kind.Colon ∷ f.value
 abbrev pub literal_tokens : Literal → List Token
 literal_tokens = fold-Literal (List Token) (List Token) (List Token) value_step literal_step field_step
 
+-- the tokens of a value without its place
 abbrev pub value_tokens : LiteralValue → List Token
 value_tokens = fold-LiteralValue (List Token) (List Token) (List Token) value_step literal_step field_step
 
+-- the tokens of a field of an object
 abbrev pub object_field_tokens : ObjectField → List Token
 object_field_tokens = fold-ObjectField (List Token) (List Token) (List Token) value_step literal_step field_step

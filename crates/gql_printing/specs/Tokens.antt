@@ -8,6 +8,10 @@ use Rattle.gql_tokens.specs.declared.token.Kind.TheVariants as kind
 use Rattle.gql_spelling.specs.Spelling.{mark_of}
 use Rattle.gql_model.specs.declared.name.Name.{Name}
 
+-- what a tree is written as
+abbrev pub Toks : Type 0
+Toks = List Token
+
 -- a token that is written; its place counts for nothing
 abbrev pub token : Kind → List ℕ → Token
 token k text = record { kind = k; text = text; place = first_place }

@@ -11,6 +11,7 @@ abbrev pub bang_tokens : Bool → List Token
 bang_tokens true = punctuator kind.Bang ∷ []
 bang_tokens false = []
 
+-- a list type, where the type inside is its tokens already
 abbrev pub list_type_tokens : List Token → Bool → List Token
 list_type_tokens inner bang = punctuator kind.BracketOpen ∷ (inner ++ (punctuator kind.BracketClose ∷ bang_tokens bang))
 

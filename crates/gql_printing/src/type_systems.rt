@@ -64,12 +64,7 @@ fn print_schema(definition: &SchemaDefinition, printer: &mut Printer) -> Result<
 fn print_braced<T: Print>(items: &Items<T>, printer: &mut Printer) -> Result<(), Memory>
     ensures { OnOk result (printer.new ≡ written printer.old (braced T.tokens items.now)) }
 {
-    print_grouped(
-        items.as_slice(),
-        Kind::BraceOpen,
-        Kind::BraceClose,
-        printer,
-    )
+    print_grouped(items.as_slice(), Kind::BraceOpen, Kind::BraceClose, printer)
 }
 
 // OperationType ":" Name

@@ -6,8 +6,8 @@ use Rattle.gql_model.specs.declared.selection.Selection.TheFolds.{fold_out-Selec
 use Rattle.gql_model.specs.declared.selection.Selection.{Selection}
 use Rattle.gql_model.specs.declared.selection.Field.{out-Field}
 use Rattle.gql_model.specs.declared.selection.InlineFragment.{out-InlineFragment}
-use Rattle.gql_printing.specs.Tokens.{joined, optional, punctuator, word}
-use Rattle.gql_printing.specs.Selections.{selection_tokens, set_tokens, field_step, inline_step, selection_step, set_step, Toks, alias_tokens, arguments_tokens, directives_tokens, condition_tokens, or_nothing}
+use Rattle.gql_printing.specs.Tokens.{Toks, joined, optional, punctuator, word}
+use Rattle.gql_printing.specs.Selections.{selection_tokens, set_tokens, field_step, inline_step, selection_step, set_step, alias_tokens, arguments_tokens, directives_tokens, condition_tokens, or_nothing}
 use Rattle.gql_printing.proofs.Folds.{field_out}
 use Rattle.gql_printing.proofs.Writing.{drop_turn, turn, then, written_as}
 use Rattle.gql_printing.proofs.selections.+selections.Goals as goal
