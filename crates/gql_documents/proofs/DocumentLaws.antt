@@ -1,5 +1,5 @@
 -- The laws of whole documents.
-use Rattle.std.proofs.Common.{◌≡◌, ◌≢◌, ℕ, zero, suc, ◌≤◌, ◌<◌, Bool, true, false, not, List, [], ◌∷◌, ◌++◌, length, Option, Some, None, refl, sym, ap, subst, ◌∙◌, ◌⊎◌, append_assoc, append-nil, arith, inl, inr}
+use Rattle.std.proofs.Common.{◌≡◌, ◌≢◌, ℕ, zero, suc, ◌≤◌, ◌<◌, Bool, true, false, not, List, [], ◌∷◌, ◌++◌, length, Option, Some, None, refl, sym, ap, subst, ◌∙◌, append_assoc, append-nil, arith, inl, inr}
 use Rattle.std.specs.Prelude.{codes, if◌then◌else◌}
 use Rattle.gql_tokens.specs.Tokens.{Token, tokens_of}
 use Rattle.gql_tokens.specs.Heads.{is_last}
@@ -36,7 +36,7 @@ use Rattle.gql_documents.proofs.SelectionLaws.{law_directives, directives_go}
 use Rattle.gql_documents.proofs.ExecutableLaws.{law_operation, law_fragment}
 use Rattle.gql_documents.proofs.TypeSystemLaws.{form_goes, law_implements_if_any, law_fields, law_enum_values, law_input_fields, law_composite, law_schema, law_scalar, law_object_type, law_interface, law_union, law_enum, law_input_object, law_directive_definition, law_description_if_any, law_form, law_type_system}
 use Rattle.gql_documents.proofs.Ends.{Ends, brace, ends_closed, ends_braced, ends_seq, ends_made, ends_either, ends_here, ends_fit}
-use Rattle.gql_documents.proofs.Touching.{Stopping, touch_done, touch_fail, touch_complete}
+use Rattle.gql_documents.proofs.Touching.{Stopping, Quiet, touch_done, touch_fail, touch_complete}
 
 abbrev Toks : Type 0
 Toks = List Token
@@ -156,11 +156,6 @@ open_stops d false rest e h = rw e (none rest)
 stops_open : (d : Definition) (rest : Toks) → starts (goes_on_with d) rest ≡ false → takes_brace d ≡ true → starts brace rest ≡ false
 stops_open d rest s e = rw e at s
 
--- where another definition or nothing follows, none of what goes on does
-none_follow : (rest : Toks) → (rest ≡ []) ⊎ (starts definition_start rest ≡ true) → starts ends_goes rest ≡ false
-none_follow rest (inl e) = rw e refl
-none_follow rest (inr s) = starts_apart definition_start ends_goes rest refl s
-
 definition_law : Law 0 DefinitionRule DefinitionRule definition definition (shape definition_start form_goes)
 definition_law = law_definition.law refl
 
@@ -172,7 +167,9 @@ stopping = record {
   sub = λ front d r. r;
   begins = λ front d rest r. enters definition_start (shape definition_start form_goes) front rest (definition_law.begins front d r) refl refl;
   eats = eats_of definition_law refl;
-  complete = λ front d rest r follows s. ends_definition.complete front d rest r (none_follow rest follows) (stops_open d rest s);
+  ends = ends_goes;
+  apart = λ rest s. starts_apart definition_start ends_goes rest refl s;
+  complete = λ front d rest r none s. ends_definition.complete front d rest r none (stops_open d rest s);
 }
 
 pub eats_definition : Eats definition
@@ -186,9 +183,22 @@ definitions_fail : (ts rest : Toks) → definitions ts ≡ Fail rest → IsFail 
 unfolding definitions
 definitions_fail ts rest e = touch_fail DefinitionRule DefinitionRule definition_start definition goes_on_with stopping (length ts) ts (starts definition_start ts) (omega arith) refl rest (definition ts) refl e
 
+-- no definition takes this, nor does one begin with it
+abbrev IsQuiet : Toks → Type 0
+IsQuiet rest = Quiet definition_start ends_goes goes_on_with rest
+
+definitions_before : (rest : Toks) → IsQuiet rest → (front : Toks) (all : List Definition) → DefinitionsRule front all → definitions (front ++ rest) ≡ Done all rest
+unfolding definitions stopping
+definitions_before rest q front all r = touch_complete DefinitionRule DefinitionRule definition_start definition goes_on_with stopping rest q front all r
+
+no_brace_there : (d : Definition) (b : Bool) (rest : Toks) → takes_brace d ≡ b → starts brace rest ≡ false → starts (goes_on_with d) rest ≡ false
+no_brace_there d b rest e h = open_stops d b rest e (λ _. h)
+
+nothing_follows : IsQuiet []
+nothing_follows = record { not_entered = refl; not_ended = refl; not_gone_on = λ d. no_brace_there d (takes_brace d) [] refl refl }
+
 definitions_complete : (front : Toks) (all : List Definition) → DefinitionsRule front all → definitions front ≡ Done all []
-unfolding definitions
-definitions_complete front all r = touch_complete DefinitionRule DefinitionRule definition_start definition goes_on_with stopping front all r
+definitions_complete front all r = ap definitions (sym (append-nil front)) ∙ definitions_before [] nothing_follows front all r
 
 -- ---- documents
 
@@ -295,3 +305,24 @@ document_answers text document e = rw e at (judged_text text)
 
 pub fault_answers : (text : List ℕ) (place : Place) → document_of text ≡ Err place → IsFault (tokens_of text) place
 fault_answers text place e = rw e at (judged_text text)
+
+-- ---- a document is read
+
+end_follows : (end : Token) → end.kind ≡ kind.End → IsQuiet (end ∷ [])
+end_follows end e =
+    let at : (k : Kind) → Token = λ k. record { kind = k; text = end.text; place = end.place } in
+    record {
+      not_entered = subst (λ (k : Kind). starts definition_start (at k ∷ []) ≡ false) (sym e) refl;
+      not_ended = subst (λ (k : Kind). starts ends_goes (at k ∷ []) ≡ false) (sym e) refl;
+      not_gone_on = λ d. no_brace_there d (takes_brace d) (end ∷ []) refl (subst (λ (k : Kind). starts brace (at k ∷ []) ≡ false) (sym e) refl);
+    }
+
+whole_document : (all : List Definition) (end : Token) → all ≢ [] → end.kind ≡ kind.End → whole all (end ∷ []) ≡ Ok (record { definitions = all })
+whole_document [] end some e = absurd (some refl)
+whole_document (d ∷ all) end some e = rw e refl
+
+pub document_found : (text : List ℕ) (document : Document) → IsDocument text document → document_of text ≡ Ok document
+unfolding document_of
+document_found text document d =
+    let read : definitions (tokens_of text) ≡ Done document.definitions (d.1 ∷ []) = ap definitions d.2 ∙ definitions_before (d.1 ∷ []) (end_follows d.1 d.3) d.0 document.definitions d.4.1 in
+    ap judged read ∙ whole_document document.definitions d.1 d.4.0 d.3

@@ -18,8 +18,10 @@ pub record Stopping {A : Type 0} (R V : Rule A) (enter : List Sort) (p : Parser 
   pub sub : Sub R V
   pub begins : (front : Toks) (a : A) (rest : Toks) → R front a → starts enter (front ++ rest) ≡ true
   pub eats : Eats p
-  -- where another part or nothing follows
-  pub complete : (front : Toks) (a : A) (rest : Toks) → R front a → (rest ≡ []) ⊎ (starts enter rest ≡ true) → starts (goes a) rest ≡ false → p (front ++ rest) ≡ Done a rest
+  -- what goes on behind some part, and no part begins with
+  pub ends : List Sort
+  pub apart : (rest : Toks) → starts enter rest ≡ true → starts ends rest ≡ false
+  pub complete : (front : Toks) (a : A) (rest : Toks) → R front a → starts ends rest ≡ false → starts (goes a) rest ≡ false → p (front ++ rest) ≡ Done a rest
 
 no_start : (g : List Sort) (front rest : Toks) → starts g (front ++ rest) ≡ false → starts g front ≡ false
 no_start g [] rest s = refl
@@ -56,16 +58,26 @@ touch_done {A} R V enter p goes ep (suc n) ts true lt s all rest (Done a mid) d 
           rw append_assoc (many_one enter p ep.eats (dp.front ++ (k.front ++ other)) a (k.front ++ other) begun e1 ∙ ap (λ (o : Outcome (List A)). and_then o (cons_all a)) (k.local other same) ∙ ap (λ (x : List A). Done x other) all-is);
     }
 
-touch_begins : {A : Type 0} (R V : Rule A) (enter : List Sort) (p : Parser A) (goes : A → List Sort) → Stopping R V enter p goes → (front : Toks) (all : List A) → Touch R goes front all → (front ≡ []) ⊎ (starts enter front ≡ true)
-touch_begins R V enter p goes ep front [] r = inl r
-touch_begins R V enter p goes ep front (a ∷ all) r = inr (ap (starts enter) r.2 ∙ ep.begins r.0 a r.1 r.3)
+-- nothing of what follows the parts goes on behind one
+pub record Quiet {A : Type 0} (enter ends : List Sort) (goes : A → List Sort) (rest : Toks) : Type 0 where
+  pub not_entered : starts enter rest ≡ false
+  pub not_ended : starts ends rest ≡ false
+  pub not_gone_on : (a : A) → starts (goes a) rest ≡ false
 
-pub touch_complete : {A : Type 0} (R V : Rule A) (enter : List Sort) (p : Parser A) (goes : A → List Sort) → Stopping R V enter p goes → (front : Toks) (all : List A) → Touch R goes front all → many enter p front ≡ Done all []
-touch_complete R V enter p goes ep front [] r = rw r (many_none enter p [] refl)
-touch_complete R V enter p goes ep front (a ∷ all) r =
-    let e2 = touch_complete R V enter p goes ep r.1 all r.5 in
-    let e1 : p (r.0 ++ r.1) ≡ Done a r.1 = ep.complete r.0 a r.1 r.3 (touch_begins R V enter p goes ep r.1 all r.5) r.4 in
-    rw r.2 (many_one enter p ep.eats (r.0 ++ r.1) a r.1 (ep.begins r.0 a r.1 r.3) e1 ∙ ap (λ (o : Outcome (List _)). and_then o (cons_all a)) e2)
+quiet_ends : {A : Type 0} (R V : Rule A) (enter : List Sort) (p : Parser A) (goes : A → List Sort) (ep : Stopping R V enter p goes) (rest : Toks) → Quiet enter ep.ends goes rest → (front : Toks) (all : List A) → Touch R goes front all → starts ep.ends (front ++ rest) ≡ false
+quiet_ends R V enter p goes ep rest q front [] r = rw r q.not_ended
+quiet_ends R V enter p goes ep rest q front (a ∷ all) r = ep.apart (front ++ rest) (rw (r.2, append_assoc r.0 r.1 rest) (ep.begins r.0 a (r.1 ++ rest) r.3))
+
+quiet_goes : (g : List Sort) (front rest : Toks) → starts g front ≡ false → starts g rest ≡ false → starts g (front ++ rest) ≡ false
+quiet_goes g [] rest s q = q
+quiet_goes g (x ∷ front) rest s q = s
+
+pub touch_complete : {A : Type 0} (R V : Rule A) (enter : List Sort) (p : Parser A) (goes : A → List Sort) (ep : Stopping R V enter p goes) (rest : Toks) → Quiet enter ep.ends goes rest → (front : Toks) (all : List A) → Touch R goes front all → many enter p (front ++ rest) ≡ Done all rest
+touch_complete R V enter p goes ep rest q front [] r = rw r (many_none enter p rest q.not_entered)
+touch_complete R V enter p goes ep rest q front (a ∷ all) r =
+    let e2 = touch_complete R V enter p goes ep rest q r.1 all r.5 in
+    let e1 : p (r.0 ++ (r.1 ++ rest)) ≡ Done a (r.1 ++ rest) = ep.complete r.0 a (r.1 ++ rest) r.3 (quiet_ends R V enter p goes ep rest q r.1 all r.5) (quiet_goes (goes a) r.1 rest r.4 (q.not_gone_on a)) in
+    rw (r.2, append_assoc r.0 r.1 rest) (many_one enter p ep.eats (r.0 ++ (r.1 ++ rest)) a (r.1 ++ rest) (ep.begins r.0 a (r.1 ++ rest) r.3) e1 ∙ ap (λ (o : Outcome (List _)). and_then o (cons_all a)) e2)
 
 pub touch_fail : {A : Type 0} (R V : Rule A) (enter : List Sort) (p : Parser A) (goes : A → List Sort) → Stopping R V enter p goes → (n : ℕ) (ts : Toks) (b : Bool) → length ts ≤ n → starts enter ts ≡ b → (rest : Toks) (o : Outcome A) → p ts ≡ o → many enter p ts ≡ Fail rest → IsFail (Touch V goes) (many enter p) ts rest
 touch_fail R V enter p goes ep n ts false lt s rest o d e = absurd (done_not_fail _ _ _ (sym (many_none enter p ts s) ∙ e))

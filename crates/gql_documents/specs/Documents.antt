@@ -68,3 +68,7 @@ abbrev pub Answers : List ℕ → Result Document SyntaxError → Type 0
 Answers text (Ok document) = IsDocument text document
 Answers text (Err Memory) = Unit {0}
 Answers text (Err (Syntax row column)) = IsFault (tokens_of text) (record { row = row; column = column })
+
+-- a text is read as the document that its tokens derive, so none is refused, and none has two
+abbrev pub DocumentsAreRead : Type 0
+DocumentsAreRead = (text : List ℕ) (document : Document) → IsDocument text document → document_of text ≡ Ok document

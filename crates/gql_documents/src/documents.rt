@@ -4,7 +4,7 @@ ghost use Rattle.std.specs.Prelude.{◌≡◌, ◌<◌, ◌≤◌, length, OnOk}
 ghost use Rattle.gql_tokens.specs.Nesting.{nesting_of};
 ghost use Rattle.gql_documents.specs.Parsing.{Reads};
 ghost use Rattle.gql_documents.specs.Documents as spec;
-ghost use Rattle.gql_documents.specs.Documents.{Answers, Reading, document_of};
+ghost use Rattle.gql_documents.specs.Documents.{Answers, DocumentsAreRead, Reading, document_of};
 ghost use Rattle.gql_tokens.specs.declared.error.SyntaxError.TheVariants.{Syntax};
 
 use crate::cursor::Cursor;
@@ -80,3 +80,8 @@ fn fault_at(place: Place) -> SyntaxError
         column: place.column,
     }
 }
+
+/// Each text whose tokens derive a document is read as this document.
+pub fn documents_are_read()
+    ensures { DocumentsAreRead }
+{}

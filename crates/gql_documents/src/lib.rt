@@ -23,6 +23,6 @@ mod selections;
 mod tests;
 mod type_systems;
 
-pub use documents::parse_document;
+pub use documents::{documents_are_read, parse_document};
 pub use gql_model::{Definition, Document};
 pub use gql_tokens::{SyntaxError, Token, Tokens, lex, nesting};

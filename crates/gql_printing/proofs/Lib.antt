@@ -1,0 +1,11 @@
+pub mod Again
+pub mod DocumentLaws
+pub mod ExecutableLaws
+pub mod Folds
+pub mod Joining
+pub mod SelectionLaws
+pub mod Tokens
+pub mod TypeSystemLaws
+pub mod Utf8
+pub mod ValueLaws
+pub mod Writing

@@ -1,0 +1,10 @@
+pub mod Tokens
+pub mod Literals
+pub mod Types
+pub mod Selections
+pub mod Executables
+pub mod TypeSystems
+pub mod Documents
+pub mod Progress
+pub mod Places
+pub mod Laws
