@@ -5,7 +5,7 @@ use Rattle.gql_tokens.specs.declared.token.Kind.TheVariants as kind
 use Rattle.gql_model.specs.Sorts.{word}
 use Rattle.gql_documents.specs.TypeSystems as spec
 use Rattle.gql_documents.proofs.Turns.{reads_stopped, reads_behind}
-use Rattle.gql_documents.proofs.type_systems.implements.Goals as goal
+use Rattle.gql_documents.proofs.fields.implements.Goals as goal
 
 pub returns-in_err-word-clause-reads : goal.returns-in_err-word-clause-reads
 unfolding spec.implements

@@ -5,7 +5,7 @@ use Rattle.gql_documents.specs.TypeSystems as spec
 use Rattle.gql_model.specs.Sorts.{mark}
 use Rattle.gql_documents.proofs.TypeSystemLaws.{eats_name_behind}
 use Rattle.gql_documents.proofs.Turns.{onto_one, onto_none, turn_bad}
-use Rattle.gql_documents.proofs.type_systems.more_names.Goals as goal
+use Rattle.gql_documents.proofs.name_lists.more_names.Goals as goal
 
 pub returns-in_err-next-clause-reads : goal.returns-in_err-next-clause-reads
 returns-in_err-next-clause-reads c =

@@ -4,7 +4,7 @@ use Rattle.gql_documents.specs.Parsing.{onto, many}
 use Rattle.gql_documents.specs.TypeSystems as spec
 use Rattle.gql_documents.proofs.TypeSystemLaws.{eats_field_definition}
 use Rattle.gql_documents.proofs.Turns.{onto_one, onto_none, turn_bad}
-use Rattle.gql_documents.proofs.type_systems.more_fields.Goals as goal
+use Rattle.gql_documents.proofs.fields.more_fields.Goals as goal
 
 pub returns-in_err-next-clause-reads : goal.returns-in_err-next-clause-reads
 returns-in_err-next-clause-reads c =

@@ -1,11 +1,11 @@
 use Rattle.std.proofs.Common.{◌≡◌, ◌≤◌, [], ◌∷◌, length}
 use Rattle.gql_documents.specs.Parsing.{onto, many}
 use Rattle.gql_documents.specs.TypeSystems as spec
-use Rattle.gql_documents.proofs.type_systems.more_fields.Given as goal
+use Rattle.gql_documents.proofs.fields.more_inputs.Given as goal
 
 abbrev pub invariant-turn : goal.invariant-turn
 invariant-turn l = record {
-  reads : onto l.all (many spec.described_start (spec.field_definition) l.tokens) ≡ onto l.fn.all (many spec.described_start (spec.field_definition) l.fn.tokens);
+  reads : onto l.all (many spec.described_start (spec.input) l.tokens) ≡ onto l.fn.all (many spec.described_start (spec.input) l.fn.tokens);
   shorter : length l.tokens ≤ length l.fn.tokens;
 }
 
