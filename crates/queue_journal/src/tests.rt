@@ -40,7 +40,11 @@ pub fn put_once<K: Keeper>(alloc: Global, keeper: &mut K, document: &str) -> Res
 #[test]
 fn puts_write_their_rows_and_a_new_opening_finds_them(rt: HostRuntime) -> Result<(), Fail> {
     let alloc = rt.alloc();
-    let mut journal = opened(alloc, MemoryDisk::new(alloc, Bytes::new(alloc), 4096)?, 4096)?;
+    let mut journal = opened(
+        alloc,
+        MemoryDisk::new(alloc, Bytes::new(alloc), 4096)?,
+        4096,
+    )?;
     assert_eq!(rt; put_once(alloc, &mut journal, DONE)?, 1);
     let disk = journal.into_disk();
     assert_eq!(rt; disk.bytes().len(), 77);
