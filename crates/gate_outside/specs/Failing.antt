@@ -23,3 +23,7 @@ pub record FailsAsListed {T : Type 0} (old new : WithFailures T) (fails fails_in
   pub listed : Contains old.fail_at (next_call old) → fails
   pub unlisted : fails → Contains old.fail_at (next_call old) ⊎ fails_inside
   pub spared : (new.faults ≡ old.faults) ⊎ fails
+
+-- a listed call leaves the object inside as it was
+abbrev pub SparesInside : {T : Type 0} → WithFailures T → WithFailures T → Type 0
+SparesInside old new = Contains old.fail_at (next_call old) → new.inner ≡ old.inner

@@ -1,6 +1,8 @@
 pub mod Disk
 pub mod Failing
 pub mod InMemory
+pub mod Log
+pub mod LogLaws
 pub mod MemoryDisk
 pub mod Shelf
 pub mod Sink

@@ -1,4 +1,4 @@
-ghost use Rattle.std.specs.Prelude.{◌≡◌, ◌<◌, ◌≤◌, IsErr, IsErrOf, IfOk, IsTrue, ◌↔◌, Contains};
+ghost use Rattle.std.specs.Prelude.{◌≡◌, ◌<◌, ◌≤◌, IsOk, IsErr, IsErrOf, IfOk, IsTrue, ◌↔◌, Contains};
 ghost use Rattle.std.specs.Io.{ReadsAtMost};
 ghost use Rattle.std.specs.Io.KnownBytes.{ReadConsumes, WriteAppends};
 ghost use Rattle.fault_causes.specs.Causes.{Rose, HasCause, HasCauseOf};
@@ -18,11 +18,11 @@ use std::alloc::Global;
 use std::marker::Model;
 use text_types::{Bytes, Memory, Named, Text};
 
-/// A source, a sink or a shelf that does as the one inside, except that its calls with the listed
+/// A source, a sink, a shelf or a disk that does as the one inside, except that its calls with the listed
 /// numbers fail. The first call has the number 1.
 #[derive(Drop)]
 pub struct Failing<T> {
-    inner: T,
+    pub(crate) inner: T,
     fail_at: Vec<u64>,
     calls: u64,
     faults: u64,
@@ -48,7 +48,7 @@ impl<T> Model for Failing<T> {
 }
 
 impl<T> Failing<T> {
-    fn over(inner: T, fail_at: Vec<u64>) -> Failing<T>
+    pub(crate) fn over(inner: T, fail_at: Vec<u64>) -> Failing<T>
         ensures { result ≡ uncalled inner fail_at.items }
     {
         Failing {
@@ -60,7 +60,7 @@ impl<T> Failing<T> {
     }
 
     /// Counts one more call, and tells whether it is to fail.
-    fn next_fails(&mut self) -> bool
+    pub(crate) fn next_fails(&mut self) -> bool
         ensures listed { IsTrue result ↔ Contains self.old.fail_at (next_call self.old) }
         ensures counted { self.new ≡ record self.old { calls = next_call self.old } }
     {
@@ -68,11 +68,27 @@ impl<T> Failing<T> {
         self.fail_at.contains(&self.calls)
     }
 
-    fn count_fault(&mut self)
+    pub(crate) fn count_fault(&mut self)
         ensures cause { (self.old.faults ≤ self.new.faults) × Rose self.old.faults self.new.faults }
         ensures only { self.new ≡ record self.old { faults = self.new.faults } }
     {
         self.faults = self.faults.saturating_add(1);
+    }
+
+    /// Hands on what the object inside answered, and counts it where it is a failure.
+    pub(crate) fn count_failure<R>(&mut self, answer: Result<R, Failed>) -> Result<R, Failed>
+        ensures same { result ≡ answer }
+        ensures cause { HasCause self.old.faults self.new.faults result }
+        ensures spared { IsOk result → self.new.faults ≡ self.old.faults }
+        ensures only { self.new ≡ record self.old { faults = self.new.faults } }
+    {
+        match answer {
+            Ok(given) => Ok(given),
+            Err(Failed) => {
+                self.count_fault();
+                Err(Failed)
+            }
+        }
     }
 }
 
@@ -143,13 +159,8 @@ impl<S: Source> Source for Failing<S> {
             self.count_fault();
             return Err(Failed);
         }
-        match self.inner.read(buf) {
-            Ok(count) => Ok(count),
-            Err(Failed) => {
-                self.count_fault();
-                Err(Failed)
-            }
-        }
+        let answer = self.inner.read(buf);
+        self.count_failure(answer)
     }
 }
 
@@ -169,13 +180,8 @@ impl<K: Sink> Sink for Failing<K> {
             self.count_fault();
             return Err(Failed);
         }
-        match self.inner.write(bytes) {
-            Ok(count) => Ok(count),
-            Err(Failed) => {
-                self.count_fault();
-                Err(Failed)
-            }
-        }
+        let answer = self.inner.write(bytes);
+        self.count_failure(answer)
     }
 }
 

@@ -6,11 +6,14 @@
 //! count of faults: a call answers `Failed` only where that count rose in the call. The layer above
 //! takes its input, its output and its files by these traits alone, so whatever it proves holds
 //! over any of them. Here stand the forms in memory; those over the system's files and streams stand
-//! in the program.
+//! in the program. Each form in memory has a second one, whose calls with listed numbers fail, and the
+//! disk in memory hands out the files that a crash behind any of its changes might have left.
 #![tactic(auto)]
 
+mod change;
 mod disk;
 mod failing;
+mod failing_disk;
 mod memory_disk;
 mod memory_shelf;
 mod memory_sink;
@@ -18,9 +21,11 @@ mod memory_source;
 mod shelf;
 mod sink;
 mod source;
+mod tear;
 
 pub use disk::Disk;
 pub use failing::{Failing, FailingShelf, FailingSink, FailingSource};
+pub use failing_disk::FailingDisk;
 pub use memory_disk::MemoryDisk;
 pub use memory_shelf::MemoryShelf;
 pub use memory_sink::MemorySink;
@@ -28,6 +33,9 @@ pub use memory_source::MemorySource;
 pub use shelf::{Shelf, ShelfError};
 pub use sink::{Sink, write_all};
 pub use source::{Failed, Source};
+pub use tear::Tear;
 
+#[cfg(test)]
+mod disk_tests;
 #[cfg(test)]
 mod tests;

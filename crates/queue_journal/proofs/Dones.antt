@@ -1,5 +1,5 @@
 -- What a done does to a settled journal.
-use Rattle.std.proofs.Common.{◌≡◌, ◌≢◌, ◌⊎◌, inl, inr, ⊎_elim, ℕ, suc, ◌+◌, ◌-◌, ◌<◌, ◌≤◌, max, List, [], ◌∷◌, ◌++◌, length, get_or, take, drop, Option, Some, refl, sym, ◌∙◌, ap, subst, arith, option_map}
+use Rattle.std.proofs.Common.{◌≡◌, ◌≢◌, ◌⊎◌, inl, inr, ⊎_elim, ℕ, suc, ◌+◌, ◌<◌, max, List, [], ◌∷◌, length, get_or, take, drop, Option, Some, refl, sym, ◌∙◌, ap, subst, arith, option_map}
 use Rattle.std.specs.List.{All, remove}
 use Rattle.std.proofs.lemmas.List.Edits.{length-remove}
 use Rattle.std.proofs.lemmas.List.Elements.{All-append, All-take, All-drop, All-get_or}
@@ -8,14 +8,14 @@ use Rattle.fault_causes.proofs.Moments.{joined}
 use Rattle.gate_outside.specs.Disk.{IsTorn, IsCutOrWhole, written}
 use Rattle.queue_model.specs.declared.row.Row.{Row}
 use Rattle.queue_model.specs.Queue.{MutationQueue, completed, without, numbers_of, end_with, RiseBetween}
-use Rattle.queue_model.specs.QueueFile.{magic, StoredRow, with_chain, held_rows, last_number, end_of, IsQueueFile, RowsOfFile}
+use Rattle.queue_model.specs.QueueFile.{StoredRow, with_chain, held_rows, last_number, end_of, IsQueueFile, RowsOfFile}
 use Rattle.queue_model.proofs.Chains.{one_list}
 use Rattle.queue_model.proofs.Rises.{without_at, rise_without}
 use Rattle.offline_queue.specs.Keeper.{IsRowsBeforeOrAfter}
-use Rattle.queue_journal.specs.Journal.{OpenJournal, IsSettled, Stands, state_places}
+use Rattle.queue_journal.specs.Journal.{OpenJournal, IsSettled, Stands}
 use Rattle.queue_journal.specs.Steps.{WhereTold, After}
 use Rattle.queue_journal.proofs.Chains.{Split, split_at_row, with_state, held_without, places_without, last_state, size_state}
-use Rattle.queue_journal.proofs.Images.{torn_state, done_file, changed, empty_chain}
+use Rattle.queue_journal.proofs.Images.{torn_state, done_file, changed}
 use Rattle.queue_journal.proofs.Kept.{Leaves, lifted, map_some}
 use Rattle.queue_journal.proofs.Resets.{closes, end_nonempty, settled_empty}
 use Rattle.queue_journal.proofs.Runs.{after_only}

@@ -1,5 +1,5 @@
 -- What stands at a place of a file: a record, or none.
-use Rattle.std.proofs.Common.{◌≡◌, ◌≢◌, ℕ, ◌+◌, ◌-◌, ◌<◌, ◌≤◌, ◌^◌, List, [], ◌∷◌, ◌++◌, length, take, drop, refl, sym, ◌∙◌, ap, subst, arith, Ok, Err, take-append-drop}
+use Rattle.std.proofs.Common.{◌≡◌, ◌≢◌, ℕ, ◌+◌, ◌<◌, ◌^◌, List, ◌∷◌, ◌++◌, length, take, drop, refl, sym, ◌∙◌, ap, arith, Err, take-append-drop}
 use Rattle.std.specs.Int.{w64, to_be_bytes, from_be_bytes}
 use Rattle.std.proofs.lemmas.List.{drop-drop}
 use Rattle.std.proofs.lemmas.Nat.{from_be_bytes-to_be_bytes_8}
@@ -7,7 +7,6 @@ use Rattle.queue_model.specs.QueueFile.{StoredRow, with_text, with_record}
 use Rattle.queue_model.proofs.Chains.{same_parts, length-with_record}
 use Rattle.queue_journal.specs.declared.error.OpenError.{OpenError}
 use Rattle.queue_journal.specs.declared.error.OpenError.TheVariants.{Memory, NotAJournal, Failed}
-use Rattle.queue_journal.specs.declared.found.RecordAt.{RecordAt}
 use Rattle.queue_journal.specs.Reading.{ReadsTexts, ReadsRecord, CanStand}
 
 pub no_record_short : (y : List ℕ) → length y < 9 → (low : ℕ) (s : StoredRow) (rest : List ℕ) → CanStand low s → y ≢ with_record s rest

@@ -1,10 +1,9 @@
 -- What a crash leaves of a queue file in each step of a call, and what the call leaves.
-use Rattle.std.proofs.Common.{◌≡◌, ◌≢◌, ◌⊎◌, inl, inr, ⊎_elim, ℕ, ◌+◌, ◌-◌, ◌<◌, ◌≤◌, max, List, [], ◌∷◌, ◌++◌, length, take, drop, refl, sym, ◌∙◌, ap, subst, arith, append_assoc, length-append}
+use Rattle.std.proofs.Common.{◌≡◌, ◌≢◌, ◌⊎◌, inl, inr, ⊎_elim, ℕ, ◌+◌, ◌-◌, ◌≤◌, List, [], ◌∷◌, ◌++◌, length, take, drop, refl, sym, ◌∙◌, ap, subst, arith, append_assoc, length-append}
 use Rattle.std.proofs.lemmas.List.{drop_all}
 use Rattle.std.proofs.lemmas.Bool.{cases_eq}
 use Rattle.std.specs.List.{remove}
 use Rattle.gate_outside.specs.Disk.{IsTorn, IsCutOrWhole, written}
-use Rattle.queue_model.specs.declared.row.Row.{Row}
 use Rattle.queue_model.specs.QueueFile.{magic, StoredRow, with_record, with_chain, held_rows, last_number, end_of, AreInOrder, IsQueueFile, RowsOfFile}
 use Rattle.queue_journal.proofs.OneByte.{torn_one, written_one, torn_behind, written_behind}
 use Rattle.queue_journal.proofs.Chains.{front, split_file, length-front, with_record_append, with_chain_more, Follows, order_push, order_state, with_state, Split, held_same, held_without}

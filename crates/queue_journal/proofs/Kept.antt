@@ -1,5 +1,5 @@
 -- From what a crash leaves of the file to what it leaves of the rows.
-use Rattle.std.proofs.Common.{◌≡◌, ◌⊎◌, inl, inr, ⊎_elim, ℕ, ◌≤◌, List, Option, Some, None, refl, sym, ◌∙◌, ap, subst, option_map, is_some, Bool, true, false, Result, Ok, Err, OnOk}
+use Rattle.std.proofs.Common.{◌≡◌, inl, inr, ⊎_elim, ℕ, List, Option, Some, None, refl, ◌∙◌, ap, option_map, is_some, true, false, Result, Ok, Err, OnOk}
 use Rattle.fault_causes.specs.Crash.{LeavesOnly}
 use Rattle.fault_causes.proofs.Moments.{started}
 use Rattle.queue_model.specs.declared.row.Row.{Row}

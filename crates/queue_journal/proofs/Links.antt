@@ -1,5 +1,5 @@
 -- One link more of a record chain.
-use Rattle.std.proofs.Common.{◌≡◌, ◌≢◌, ℕ, ◌+◌, ◌-◌, ◌<◌, ◌≤◌, ◌^◌, List, [], ◌∷◌, ◌++◌, length, get_or, take, drop, refl, sym, ◌∙◌, ap, subst, arith, Ok, Err, Bool, true, false, length-drop, length-append, take-append-drop, inl, inr}
+use Rattle.std.proofs.Common.{◌≡◌, ◌≢◌, ℕ, ◌+◌, ◌<◌, ◌≤◌, List, [], ◌∷◌, ◌++◌, length, get_or, take, drop, refl, sym, ◌∙◌, ap, subst, arith, Err, true, false, length-drop, length-append, take-append-drop, inl, inr}
 use Rattle.std.specs.Prelude.{◌==◌}
 use Rattle.std.specs.List.{All}
 use Rattle.std.proofs.lemmas.List.{drop_all, drop-drop}
@@ -9,7 +9,7 @@ use Rattle.std.proofs.lemmas.Bool.Decides.{nat_tests}
 use Rattle.queue_model.specs.declared.row.Row.{Row}
 use Rattle.queue_model.specs.Queue.{RiseBetween}
 use Rattle.queue_model.proofs.Rises.{rise_push, rise_to_higher}
-use Rattle.queue_model.specs.QueueFile.{magic, StoredRow, with_record, with_chain, held_rows, last_number, end_of, AreInOrder, IsQueueFile}
+use Rattle.queue_model.specs.QueueFile.{magic, StoredRow, with_record, with_chain, held_rows, last_number, AreInOrder, IsQueueFile}
 use Rattle.queue_model.proofs.Chains.{goes_on_behind, length-with_record}
 use Rattle.queue_journal.specs.declared.error.OpenError.{OpenError}
 use Rattle.queue_journal.specs.declared.error.OpenError.TheVariants.{Memory, NotAJournal, Failed}

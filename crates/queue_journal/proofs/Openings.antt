@@ -1,19 +1,18 @@
 -- What the opening of a file does.
-use Rattle.std.proofs.Common.{◌≡◌, ◌≢◌, ◌⊎◌, inl, inr, ⊎_elim, ℕ, ◌+◌, ◌<◌, ◌≤◌, List, [], ◌∷◌, ◌++◌, length, take, Option, Some, Err, refl, sym, ◌∙◌, ap, subst, arith, option_map, IsErrOf}
+use Rattle.std.proofs.Common.{◌≡◌, ◌⊎◌, inl, inr, ℕ, ◌+◌, ◌<◌, ◌≤◌, List, [], ◌∷◌, ◌++◌, length, take, Option, Some, Err, refl, sym, ◌∙◌, ap, subst, arith, option_map}
 use Rattle.std.specs.List.{All}
 use Rattle.std.proofs.lemmas.List.Elements.{All-weaker}
 use Rattle.fault_causes.specs.Crash.{Only, LeavesOnly}
 use Rattle.fault_causes.proofs.Moments.{joined, weakened}
 use Rattle.gate_outside.specs.Disk.{IsTorn, IsCutOrWhole, written}
-use Rattle.queue_model.specs.declared.row.Row.{Row}
-use Rattle.queue_model.specs.Queue.{MutationQueue, RiseBetween}
-use Rattle.queue_model.specs.QueueFile.{magic, StoredRow, held_rows, last_number, end_of, IsQueueFile, RowsOfFile}
+use Rattle.queue_model.specs.Queue.{RiseBetween}
+use Rattle.queue_model.specs.QueueFile.{magic, StoredRow, held_rows, IsQueueFile}
 use Rattle.queue_journal.specs.declared.error.OpenError.{OpenError}
 use Rattle.queue_journal.specs.declared.error.OpenError.TheVariants.{Memory, NotAJournal, Failed}
 use Rattle.queue_journal.specs.declared.found.ChainSoFar.{ChainSoFar}
 use Rattle.queue_journal.specs.Journal.{OpenJournal, IsSettled}
 use Rattle.queue_journal.specs.Opening.{WasOrSame}
-use Rattle.queue_journal.specs.Reading.{IsSound, IsRead, IsNoQueueFile, ReadsChain, UnlessRefused}
+use Rattle.queue_journal.specs.Reading.{IsSound, IsRead, IsNoQueueFile, ReadsChain}
 use Rattle.queue_journal.specs.Steps.{WhereTold, After, IsQuiet}
 use Rattle.queue_journal.proofs.Images.{torn_begin, begun_file}
 use Rattle.queue_journal.proofs.Kept.{map_some}

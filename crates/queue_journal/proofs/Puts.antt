@@ -1,18 +1,18 @@
 -- What a put does to a settled journal.
-use Rattle.std.proofs.Common.{◌≡◌, ◌⊎◌, inl, inr, ⊎_elim, ℕ, ◌+◌, ◌-◌, ◌*◌, ◌<◌, ◌≤◌, ◌^◌, max, List, [], ◌∷◌, ◌++◌, length, Option, Some, refl, sym, ◌∙◌, ap, subst, arith, length-append, option_map, IsUtf8}
+use Rattle.std.proofs.Common.{◌≡◌, ◌⊎◌, inl, inr, ⊎_elim, ℕ, ◌+◌, ◌-◌, ◌<◌, ◌≤◌, max, List, [], ◌∷◌, ◌++◌, length, Option, Some, refl, sym, ◌∙◌, ap, subst, arith, length-append, option_map, IsUtf8}
 use Rattle.std.specs.List.{All}
 use Rattle.std.proofs.lemmas.List.Elements.{All-push, All-weaker}
 use Rattle.fault_causes.specs.Crash.{Only, LeavesOnly}
 use Rattle.gate_outside.specs.Disk.{IsTorn, written}
 use Rattle.queue_model.specs.declared.row.Row.{Row}
 use Rattle.queue_model.specs.Queue.{MutationQueue, need_of, queued, HasNumber, HasRoom, RiseBetween}
-use Rattle.queue_model.specs.QueueFile.{StoredRow, with_record, with_chain, held_rows, last_number, end_of, FitsRecord, RowsOfFile, IsQueueFile}
+use Rattle.queue_model.specs.QueueFile.{StoredRow, with_record, with_chain, held_rows, last_number, end_of, RowsOfFile, IsQueueFile}
 use Rattle.queue_model.proofs.Chains.{one_list, length-with_record}
 use Rattle.queue_model.proofs.Rises.{rise_push}
 use Rattle.offline_queue.specs.Keeper.{IsRowsBeforeOrAfter}
-use Rattle.queue_journal.specs.Journal.{OpenJournal, IsSettled, Stands, held_record, state_places}
+use Rattle.queue_journal.specs.Journal.{OpenJournal, IsSettled, held_record, state_places}
 use Rattle.queue_journal.specs.Steps.{WhereTold}
-use Rattle.queue_journal.proofs.Chains.{front, Follows, held_append, places_append, places_first, last_push, with_chain_more, with_chain_append, length-chain}
+use Rattle.queue_journal.proofs.Chains.{Follows, held_append, places_append, places_first, last_push, with_chain_more, with_chain_append}
 use Rattle.queue_journal.proofs.Images.{rows_of, torn_record, torn_commit, put_file}
 use Rattle.queue_journal.proofs.Kept.{Leaves, lifted, map_some}
 

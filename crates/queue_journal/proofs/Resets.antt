@@ -1,17 +1,15 @@
 -- A file whose rows are all done is closed and cut.
-use Rattle.std.proofs.Common.{◌≡◌, ◌≢◌, ◌⊎◌, inl, inr, ⊎_elim, ℕ, ◌+◌, ◌<◌, ◌≤◌, List, [], ◌∷◌, ◌++◌, length, take, Option, Some, refl, sym, ◌∙◌, ap, subst, arith, option_map}
+use Rattle.std.proofs.Common.{◌≡◌, ◌≢◌, ◌⊎◌, ⊎_elim, ℕ, ◌<◌, ◌≤◌, List, [], ◌∷◌, ◌++◌, length, take, Option, Some, refl, sym, ◌∙◌, ap, subst, arith, option_map}
 use Rattle.std.specs.List.{All}
 use Rattle.std.proofs.lemmas.List.{nil_from_length}
 use Rattle.std.proofs.lemmas.List.Elements.{All-nil}
 use Rattle.fault_causes.specs.Crash.{Only, LeavesOnly}
 use Rattle.gate_outside.specs.Disk.{IsTorn, IsCutOrWhole, written}
-use Rattle.queue_model.specs.declared.row.Row.{Row}
 use Rattle.queue_model.specs.Queue.{MutationQueue, RiseBetween}
 use Rattle.queue_model.specs.QueueFile.{magic, StoredRow, with_chain, held_rows, end_of, IsQueueFile, RowsOfFile}
 use Rattle.queue_model.proofs.Chains.{one_list, length-with_record}
-use Rattle.queue_journal.specs.Journal.{OpenJournal, IsSettled, Stands}
+use Rattle.queue_journal.specs.Journal.{OpenJournal, IsSettled}
 use Rattle.queue_journal.specs.Steps.{WhereTold, After}
-use Rattle.queue_journal.proofs.Chains.{with_chain_more, length-chain, length-front, front}
 use Rattle.queue_journal.proofs.Images.{torn_close, torn_cut, cut_file, empty_chain, no_rows}
 use Rattle.queue_journal.proofs.Kept.{Leaves, lifted, map_some}
 use Rattle.queue_journal.proofs.Runs.{after_only}

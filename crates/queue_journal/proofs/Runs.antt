@@ -1,9 +1,9 @@
 -- Runs of a disk's calls, each of which a crash may meet.
-use Rattle.std.proofs.Common.{◌≡◌, ◌⊎◌, inl, inr, ℕ, ◌≤◌, List, Option, Some, refl, sym, ◌∙◌, ap, subst, IfSome}
+use Rattle.std.proofs.Common.{◌≡◌, ◌⊎◌, inl, inr, ℕ, List, Option, Some, refl, ◌∙◌, subst, IfSome}
 use Rattle.fault_causes.specs.Crash.{Only, Follows, Elapses, LeavesOnly}
 use Rattle.fault_causes.proofs.Moments.{started, stepped, joined, weakened}
 use Rattle.gate_outside.specs.Disk.{IsTorn, IsCutOrWhole}
-use Rattle.queue_journal.specs.Steps.{After, IsQuiet, WhereTold}
+use Rattle.queue_journal.specs.Steps.{After, IsQuiet}
 
 pub whole_torn : (at n : ℕ) (c : List ℕ) → IsTorn at n c c
 whole_torn at n c = record { before = refl; after = refl; size = inl refl }

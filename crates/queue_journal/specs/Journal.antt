@@ -1,9 +1,9 @@
 -- What an open journal holds, and how this stands to the file on its disk.
-use Rattle.std.specs.Prelude.{◌≡◌, ◌⊎◌, ℕ, ◌+◌, ◌<◌, ◌≤◌, List, [], ◌∷◌, Option, Some, length, All, if◌then◌else◌, ◌==◌}
+use Rattle.std.specs.Prelude.{◌≡◌, ℕ, ◌+◌, ◌<◌, ◌≤◌, List, [], ◌∷◌, Option, length, All, if◌then◌else◌, ◌==◌}
 use Rattle.fault_causes.specs.Crash.{Only}
 use Rattle.queue_model.specs.declared.row.Row.{Row}
 use Rattle.queue_model.specs.Queue.{MutationQueue, RiseBetween}
-use Rattle.queue_model.specs.QueueFile.{StoredRow, with_record, with_chain, held_rows, last_number, end_of, IsQueueFile, RowsOfFile}
+use Rattle.queue_model.specs.QueueFile.{StoredRow, with_record, held_rows, last_number, end_of, IsQueueFile, RowsOfFile}
 use Rattle.queue_journal.specs.Steps.{WhereTold}
 
 -- the disk, the queue, and the place of the state byte of each row

@@ -1,10 +1,7 @@
 -- What an opening makes of a file.
-use Rattle.std.specs.Prelude.{◌≡◌, ◌⊎◌, ℕ, ◌<◌, ◌≤◌, List, Option, Some, Result, length}
-use Rattle.fault_causes.specs.Crash.{Only, LeavesOnly}
+use Rattle.std.specs.Prelude.{◌⊎◌, ℕ, ◌<◌, List, length}
 use Rattle.queue_model.specs.declared.row.Row.{Row}
-use Rattle.queue_model.specs.Queue.{MutationQueue}
-use Rattle.queue_model.specs.QueueFile.{RowsOfFile, IsQueueFile}
-use Rattle.queue_journal.specs.Journal.{OpenJournal}
+use Rattle.queue_model.specs.QueueFile.{RowsOfFile}
 use Rattle.queue_journal.specs.Reading.{IsNoQueueFile}
 
 -- both files stand for one list of rows

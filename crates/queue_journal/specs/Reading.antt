@@ -1,7 +1,6 @@
 -- What a reading of the queue file found, record by record.
-use Rattle.std.specs.Prelude.{◌≡◌, ◌≢◌, ℕ, ◌+◌, ◌-◌, ◌<◌, ◌≤◌, ◌^◌, ⊤, List, [], ◌∷◌, ◌++◌, Option, Some, Result, Ok, Err, Bool, true, false, length, take, drop, All}
-use Rattle.std.specs.Int.{w32, w64, to_be_bytes}
-use Rattle.queue_model.specs.declared.row.Row.{Row}
+use Rattle.std.specs.Prelude.{◌≡◌, ◌≢◌, ℕ, ◌+◌, ◌<◌, ◌≤◌, ◌^◌, ⊤, List, [], ◌∷◌, ◌++◌, Option, Some, Result, Ok, Err, Bool, true, false, length, drop, All}
+use Rattle.std.specs.Int.{w64, to_be_bytes}
 use Rattle.queue_model.specs.Queue.{RiseBetween}
 use Rattle.queue_model.specs.QueueFile.{magic, StoredRow, with_text, with_record, with_chain, held_rows, last_number, end_of, FitsRecord, AreInOrder, IsQueueFile}
 use Rattle.queue_journal.specs.declared.error.OpenError.{OpenError}

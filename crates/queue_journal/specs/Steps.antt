@@ -1,7 +1,6 @@
 -- Calls of a disk that belong together, and what a crash among them may leave.
-use Rattle.std.specs.Prelude.{◌≡◌, ◌⊎◌, ℕ, ◌≤◌, List, Option, Some, is_some, IfSome, length, take}
+use Rattle.std.specs.Prelude.{◌≡◌, ℕ, List, Option, Some}
 use Rattle.fault_causes.specs.Crash.{LeavesOnly}
-use Rattle.gate_outside.specs.Disk.{IsTorn, IsCutOrWhole, written}
 
 -- P holds of the file as it reads, where the disk tells it
 abbrev pub WhereTold : Option (List ℕ) → (List ℕ → Type 0) → Type 0

@@ -1,7 +1,6 @@
 -- Between two calls a crash leaves the rows that a journal holds.
 use Rattle.std.specs.Prelude.{◌≡◌, ℕ, List, Option, Some}
-use Rattle.std.proofs.Common.{◌∙◌, sym, subst, inr}
-use Rattle.fault_causes.specs.Crash.{Only}
+use Rattle.std.proofs.Common.{subst, inr}
 use Rattle.queue_model.specs.declared.row.Row.{Row}
 use Rattle.queue_model.specs.QueueFile.{RowsOfFile}
 use Rattle.queue_model.proofs.Chains.{one_list}

@@ -19,6 +19,8 @@ mod record;
 mod records;
 mod steps;
 #[cfg(test)]
+mod stop_tests;
+#[cfg(test)]
 mod tests;
 mod texts;
 

@@ -11,9 +11,9 @@ use std::test::Fail;
 use text_types::{Bytes, Text};
 
 /// The texts of two mutations, of 44 and 45 bytes.
-const DONE: &str = r#"mutation{setDone(id:"1" done:true){id done}}"#;
+pub const DONE: &str = r#"mutation{setDone(id:"1" done:true){id done}}"#;
 
-const NOT_DONE: &str = r#"mutation{setDone(id:"1" done:false){id done}}"#;
+pub const NOT_DONE: &str = r#"mutation{setDone(id:"1" done:false){id done}}"#;
 
 /// Opens a journal whose rows may reach this limit.
 fn opened<D: Disk + Drop>(alloc: Global, disk: D, limit: u64) -> Result<Journal<D>, OpenError>
@@ -27,7 +27,7 @@ fn opened<D: Disk + Drop>(alloc: Global, disk: D, limit: u64) -> Result<Journal<
     }
 }
 
-fn put_once<K: Keeper>(alloc: Global, keeper: &mut K, document: &str) -> Result<u64, PutError>
+pub fn put_once<K: Keeper>(alloc: Global, keeper: &mut K, document: &str) -> Result<u64, PutError>
     requires { K.intact keeper.old }
     ensures held { IfOk result (λ seq. IsHeld seq (K.queue keeper.new).rows) }
     ensures intact { OnOk result (K.intact keeper.new) }
@@ -40,7 +40,11 @@ fn put_once<K: Keeper>(alloc: Global, keeper: &mut K, document: &str) -> Result<
 #[test]
 fn puts_write_their_rows_and_a_new_opening_finds_them(rt: HostRuntime) -> Result<(), Fail> {
     let alloc = rt.alloc();
-    let mut journal = opened(alloc, MemoryDisk::new(alloc, Bytes::new(alloc), 4096), 4096)?;
+    let mut journal = opened(
+        alloc,
+        MemoryDisk::new(alloc, Bytes::new(alloc), 4096)?,
+        4096,
+    )?;
     assert_eq!(rt; put_once(alloc, &mut journal, DONE)?, 1);
     let disk = journal.into_disk();
     assert_eq!(rt; disk.bytes().len(), 77);
@@ -59,7 +63,7 @@ fn puts_write_their_rows_and_a_new_opening_finds_them(rt: HostRuntime) -> Result
 #[test]
 fn one_place_is_used_twice(rt: HostRuntime) -> Result<(), Fail> {
     let alloc = rt.alloc();
-    let mut journal = opened(alloc, MemoryDisk::new(alloc, Bytes::new(alloc), 4096), 77)?;
+    let mut journal = opened(alloc, MemoryDisk::new(alloc, Bytes::new(alloc), 4096)?, 77)?;
     let first = put_once(alloc, &mut journal, DONE)?;
     journal.done(first)?;
     assert_eq!(rt; put_once(alloc, &mut journal, DONE)?, 2);
@@ -74,7 +78,7 @@ fn one_place_is_used_twice(rt: HostRuntime) -> Result<(), Fail> {
 #[test]
 fn a_row_that_passes_the_limit_is_refused(rt: HostRuntime) -> Result<(), Fail> {
     let alloc = rt.alloc();
-    let mut journal = opened(alloc, MemoryDisk::new(alloc, Bytes::new(alloc), 4096), 76)?;
+    let mut journal = opened(alloc, MemoryDisk::new(alloc, Bytes::new(alloc), 4096)?, 76)?;
     assert_eq!(rt;
         put_once(alloc, &mut journal, DONE),
         Err(PutError::Full { need: 68, left: 67 })

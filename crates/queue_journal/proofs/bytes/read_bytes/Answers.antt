@@ -1,4 +1,4 @@
-use Rattle.std.proofs.Common.{◌≡◌, ◌+◌, ◌-◌, ◌++◌, length, take, drop, sym, ◌∙◌, ap, subst, arith}
+use Rattle.std.proofs.Common.{◌≡◌, ◌+◌, ◌-◌, ◌++◌, length, take, drop, ◌∙◌, subst, arith}
 use Rattle.queue_journal.proofs.Pieces.{more_read}
 use Rattle.queue_journal.proofs.Runs.{quiet_then}
 use Rattle.queue_journal.proofs.bytes.read_bytes.Goals as goal

@@ -1,4 +1,4 @@
-use Rattle.std.proofs.Common.{length, get_or, sym, ◌∙◌, ap}
+use Rattle.std.proofs.Common.{length, get_or, ◌∙◌, ap}
 use Rattle.queue_journal.proofs.Links.{commit_read, one_item}
 use Rattle.queue_journal.proofs.chain.is_open.Goals as goal
 

@@ -1,4 +1,4 @@
-use Rattle.std.proofs.Common.{ℕ, List, ◌≤◌, ◌-◌, ◌≡◌}
+use Rattle.std.proofs.Common.{List, ◌≤◌, ◌-◌}
 use Rattle.queue_model.specs.QueueFile.{StoredRow}
 use Rattle.queue_journal.specs.Steps.{IsQuiet}
 use Rattle.queue_journal.specs.Reading.{WhereLong, IsSound, IsRead}

@@ -1,4 +1,4 @@
-use Rattle.std.proofs.Common.{refl, ap, length, arith}
+use Rattle.std.proofs.Common.{ap, length, arith}
 use Rattle.queue_journal.proofs.Openings.{begin_crash, settled_begin}
 use Rattle.queue_journal.proofs.opening.begin.Goals as goal
 

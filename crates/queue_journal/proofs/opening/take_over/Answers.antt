@@ -1,4 +1,4 @@
-use Rattle.std.proofs.Common.{◌≡◌, ◌<◌, [], sym, ◌∙◌, ap, arith, refl, Bool, true, false}
+use Rattle.std.proofs.Common.{◌≡◌, [], sym, ◌∙◌, ap, arith, refl, true, false}
 use Rattle.std.proofs.lemmas.Result.{err_from_is_err_and}
 use Rattle.queue_journal.specs.declared.error.OpenError.TheVariants.{NotAJournal}
 use Rattle.queue_journal.proofs.Openings.{is_foreign, settled_read, close_crash, settled_close}

@@ -1,4 +1,4 @@
-use Rattle.std.proofs.Common.{sym, ◌∙◌, ap, arith, ◌∷◌, ◌++◌, length-drop}
+use Rattle.std.proofs.Common.{◌∙◌, ap, arith, ◌∷◌, ◌++◌, length-drop}
 use Rattle.std.specs.Int.{w64, to_be_bytes}
 use Rattle.std.proofs.lemmas.Result.{err_from_is_err_and}
 use Rattle.queue_journal.proofs.Heads.{no_record_short, no_record_texts, at_head}

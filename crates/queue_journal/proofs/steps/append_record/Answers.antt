@@ -1,4 +1,4 @@
-use Rattle.std.proofs.Common.{[], ◌∷◌, ◌-◌, length, ◌∙◌, ap, option_map}
+use Rattle.std.proofs.Common.{◌-◌, length, ◌∙◌, ap, option_map}
 use Rattle.gate_outside.specs.Disk.{IsTorn, written}
 use Rattle.queue_journal.proofs.Runs.{first_of_two, both_of_two}
 use Rattle.queue_journal.proofs.steps.append_record.Goals as goal

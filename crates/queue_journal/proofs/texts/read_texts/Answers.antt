@@ -1,4 +1,4 @@
-use Rattle.std.proofs.Common.{sym, ◌∙◌}
+use Rattle.std.proofs.Common.{◌∙◌}
 use Rattle.std.proofs.lemmas.Result.{err_from_is_err_and}
 use Rattle.queue_journal.proofs.Fields.{no_operation, no_variables}
 use Rattle.queue_journal.proofs.texts.read_texts.Goals as goal

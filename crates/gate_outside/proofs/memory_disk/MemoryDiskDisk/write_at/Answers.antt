@@ -1,7 +1,8 @@
-use Rattle.gate_outside.proofs.Kept.{elapses_to}
+use Rattle.std.proofs.Common.{subst, reverse}
+use Rattle.gate_outside.specs.Log.{MayLeave}
+use Rattle.gate_outside.proofs.Torn.{write_follows}
 use Rattle.gate_outside.proofs.memory_disk.MemoryDiskDisk.write_at.Goals as goal
 
-pub returns-in-Ok-replace-clause-time : goal.returns-in-Ok-replace-clause-time
-returns-in-Ok-replace-clause-time c =
-    let past = c.in-Ok-replace.ensures.past in
-    elapses_to c.args.self.now.past.items c.replace.new.past.items past.0 c.args.self.now.bytes.items c.replace.new.bytes.items past.1 past.2
+pub returns-clause-crash : goal.returns-clause-crash
+returns-clause-crash c left is =
+    write_follows c.args.self.now.first c.args.self.now.log c.args.at c.args.bytes.now c.requires.start left (subst (λ d. MayLeave d.first (reverse d.log) left) c.write.ensures is)

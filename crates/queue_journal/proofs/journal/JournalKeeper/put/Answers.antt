@@ -1,5 +1,5 @@
-use Rattle.std.proofs.Common.{◌≡◌, inl, [], ◌∷◌, ◌+◌, sym, ◌∙◌, ap, subst, arith}
-use Rattle.queue_model.specs.Queue.{need_of, HasRoom}
+use Rattle.std.proofs.Common.{inl, [], ◌∷◌, ◌+◌, ◌∙◌, ap, subst}
+use Rattle.queue_model.specs.Queue.{HasRoom}
 use Rattle.queue_model.specs.QueueFile.{with_record}
 use Rattle.queue_journal.specs.Journal.{held_record}
 use Rattle.queue_journal.proofs.Kept.{stays}
