@@ -1,4 +1,4 @@
 mod EarlierLaws
 pub mod LeastLaws
 mod SeenLaws
-mod TestLaws
+pub mod TestLaws

@@ -1,0 +1,75 @@
+-- The rules on definitions and on spreads (GraphQL October 2021, 5.1, 5.2.1, 5.2.2, 5.5.1.1, 5.5.1.4 and 5.5.2).
+use Rattle.std.specs.Prelude.{ℕ, Bool, true, false, ◌&&◌, not, List, Option, Some, None, is_none}
+use Rattle.std.specs.List.{list_any, filter_map}
+use Rattle.std.specs.Option.{option_map}
+use Rattle.gql_model.specs.declared.executable.Operation.{Operation}
+use Rattle.gql_model.specs.declared.document.Document.{Document}
+use Rattle.gql_model.specs.declared.document.Definition.{Definition}
+use Rattle.gql_model.specs.declared.document.Definition.TheVariants as definition
+use Rattle.check_model.specs.Executables.{operations, only, fragment_named, operation_is, fragment_is, some_operation, placed}
+use Rattle.check_model.specs.Spreads.{spread_names, spread_graph, reaches_by_spreads}
+use Rattle.digraph.specs.Walks.{has_circle}
+use Rattle.check_model.specs.Repeated.{stands_twice}
+
+abbrev pub is_type_system : Definition → Bool
+is_type_system (definition.TypeSystem d) = true
+is_type_system _ = false
+
+-- V1, 5.1.1 Executable Definitions: a type system definition is there
+abbrev pub breaks_executable_definitions : Document → Bool
+breaks_executable_definitions document = list_any is_type_system document.definitions
+
+abbrev pub operation_name : Operation → Option (List ℕ)
+operation_name operation = option_map (λ n. n.text) operation.name
+
+abbrev pub name_of_operation : Definition → Option (List ℕ)
+name_of_operation (definition.Operation d) = operation_name d
+name_of_operation _ = None
+
+-- the names of the operations that have one
+abbrev pub operation_names : Document → List (List ℕ)
+operation_names document = filter_map name_of_operation document.definitions
+
+-- V2, 5.2.1.1 Operation Name Uniqueness: two operations have one name
+abbrev pub breaks_operation_name_uniqueness : Document → Bool
+breaks_operation_name_uniqueness document = stands_twice (operation_names document)
+
+-- V3, 5.2.2.1 Lone Anonymous Operation: an anonymous operation isn't the only operation
+abbrev pub breaks_lone_anonymous_operation : Document → Bool
+breaks_lone_anonymous_operation document = some_operation (λ o. is_none o.name) document && is_none (only (operations document))
+
+abbrev pub name_of_fragment : Definition → Option (List ℕ)
+name_of_fragment (definition.Fragment d) = Some d.name.text
+name_of_fragment _ = None
+
+abbrev pub fragment_names : Document → List (List ℕ)
+fragment_names document = filter_map name_of_fragment document.definitions
+
+-- V4, 5.5.1.1 Fragment Name Uniqueness: two fragments have one name
+abbrev pub breaks_fragment_name_uniqueness : Document → Bool
+breaks_fragment_name_uniqueness document = stands_twice (fragment_names document)
+
+abbrev pub is_unknown_fragment : Document → List ℕ → Bool
+is_unknown_fragment document name = is_none (fragment_named document name)
+
+abbrev pub spreads_unknown : Document → Definition → Bool
+spreads_unknown document d = list_any (is_unknown_fragment document) (spread_names d)
+
+-- V5, 5.5.2.1 Fragment Spread Target Defined: a spread names no fragment
+abbrev pub breaks_spread_target_defined : Document → Bool
+breaks_spread_target_defined document = list_any (spreads_unknown document) document.definitions
+
+-- V6, 5.5.2.2 Fragment Spreads Must Not Form Cycles: a fragment reaches itself by spreads
+abbrev pub breaks_fragment_cycles : Document → Bool
+breaks_fragment_cycles document = has_circle (spread_graph document)
+
+-- whether some operation reaches the definition at a place
+abbrev pub is_used : Document → ℕ → Bool
+is_used document place = list_any (λ p. operation_is (λ o. reaches_by_spreads document p.0 place) p.1) (placed document)
+
+abbrev pub is_unused : Document → ℕ × Definition → Bool
+is_unused document p = fragment_is (λ f. not (is_used document p.0)) p.1
+
+-- V7, 5.5.1.4 Fragments Must Be Used: no operation reaches a fragment
+abbrev pub breaks_fragments_used : Document → Bool
+breaks_fragments_used document = list_any (is_unused document) (placed document)

@@ -1,0 +1,100 @@
+-- Why a document is refused: the first ground that holds, in this project's own order of the rules of GraphQL October 2021, 5.
+use Rattle.std.specs.Prelude.{ℕ, Bool, List, [], ◌∷◌, ◌++◌, Option, Some, None, cond, is_none}
+use Rattle.gql_model.specs.declared.document.Document.{Document}
+use Rattle.schema_model.specs.declared.schema.Schema.{Schema}
+use Rattle.check_model.specs.declared.refusal.Refusal.{Refusal}
+use Rattle.check_model.specs.declared.refusal.Refusal.TheVariants.{UnknownOperation, Introspection, Invalid, TooLarge}
+use Rattle.check_model.specs.Executables.{chosen}
+use Rattle.check_model.specs.Introspection.{is_introspection}
+use Rattle.check_model.specs.Sizes.{is_too_large}
+use Rattle.check_model.specs.DocumentRules.{breaks_executable_definitions, breaks_operation_name_uniqueness, breaks_lone_anonymous_operation, breaks_fragment_name_uniqueness, breaks_spread_target_defined, breaks_fragment_cycles, breaks_fragments_used}
+use Rattle.check_model.specs.SelectionRules.{breaks_spread_type_existence, breaks_fragments_on_composites, breaks_field_selections, breaks_leaf_selections, breaks_spread_possible}
+use Rattle.check_model.specs.DirectiveRules.{breaks_directives_defined, breaks_directive_locations, breaks_directives_unique}
+use Rattle.check_model.specs.ArgumentRules.{breaks_argument_names, breaks_argument_uniqueness, breaks_required_arguments}
+use Rattle.check_model.specs.VariableRules.{breaks_variable_uniqueness, breaks_variables_are_input_types, breaks_variable_uses_defined, breaks_variables_used, breaks_variable_usages_allowed}
+use Rattle.check_model.specs.ValueRules.{breaks_values_of_correct_type, breaks_input_field_uniqueness}
+use Rattle.check_model.specs.MergeRules.{breaks_field_merging}
+use Rattle.check_model.specs.RootFields.{breaks_single_root_field}
+
+-- a refusal, and whether its ground holds
+abbrev pub Ground : Type 0
+Ground = Refusal × Bool
+
+-- the first refusal whose ground holds
+abbrev pub first_ground : List Ground → Option Refusal
+first_ground [] = None
+first_ground (g ∷ grounds) = cond g.1 (Some g.0) (first_ground grounds)
+
+-- which operation is asked for, and names kept for introspection
+abbrev pub request_grounds : Document → Option (List ℕ) → List Ground
+request_grounds document name =
+    (UnknownOperation, is_none (chosen document name))
+    ∷ (Introspection, is_introspection document)
+    ∷ []
+
+-- the rules that are said without a schema, up to those that let spreads be followed, and the size
+abbrev pub document_grounds : Document → List Ground
+document_grounds document =
+    (Invalid 1, breaks_executable_definitions document)
+    ∷ (Invalid 2, breaks_operation_name_uniqueness document)
+    ∷ (Invalid 3, breaks_lone_anonymous_operation document)
+    ∷ (Invalid 4, breaks_fragment_name_uniqueness document)
+    ∷ (Invalid 5, breaks_spread_target_defined document)
+    ∷ (Invalid 6, breaks_fragment_cycles document)
+    ∷ (TooLarge, is_too_large document)
+    ∷ (Invalid 7, breaks_fragments_used document)
+    ∷ []
+
+abbrev pub selection_grounds : Schema → Document → List Ground
+selection_grounds schema document =
+    (Invalid 8, breaks_spread_type_existence schema document)
+    ∷ (Invalid 9, breaks_fragments_on_composites schema document)
+    ∷ (Invalid 10, breaks_field_selections schema document)
+    ∷ (Invalid 11, breaks_leaf_selections schema document)
+    ∷ (Invalid 12, breaks_spread_possible schema document)
+    ∷ []
+
+abbrev pub directive_grounds : Schema → Document → List Ground
+directive_grounds schema document =
+    (Invalid 13, breaks_directives_defined schema document)
+    ∷ (Invalid 14, breaks_directive_locations schema document)
+    ∷ (Invalid 15, breaks_directives_unique schema document)
+    ∷ []
+
+abbrev pub argument_grounds : Schema → Document → List Ground
+argument_grounds schema document =
+    (Invalid 16, breaks_argument_names schema document)
+    ∷ (Invalid 17, breaks_argument_uniqueness schema document)
+    ∷ (Invalid 18, breaks_required_arguments schema document)
+    ∷ []
+
+abbrev pub variable_grounds : Schema → Document → List Ground
+variable_grounds schema document =
+    (Invalid 19, breaks_variable_uniqueness document)
+    ∷ (Invalid 20, breaks_variables_are_input_types schema document)
+    ∷ (Invalid 21, breaks_variable_uses_defined schema document)
+    ∷ (Invalid 22, breaks_variables_used schema document)
+    ∷ []
+
+abbrev pub value_grounds : Schema → Document → List Ground
+value_grounds schema document =
+    (Invalid 23, breaks_values_of_correct_type schema document)
+    ∷ (Invalid 24, breaks_input_field_uniqueness schema document)
+    ∷ (Invalid 25, breaks_variable_usages_allowed schema document)
+    ∷ []
+
+abbrev pub merge_grounds : Schema → Document → List Ground
+merge_grounds schema document =
+    (Invalid 26, breaks_field_merging schema document)
+    ∷ (Invalid 27, breaks_single_root_field schema document)
+    ∷ []
+
+-- all grounds, in the order in which they are tried
+abbrev pub grounds : Schema → Document → Option (List ℕ) → List Ground
+grounds schema document name =
+    request_grounds document name ++ (document_grounds document ++ (selection_grounds schema document ++ (directive_grounds schema document
+    ++ (argument_grounds schema document ++ (variable_grounds schema document ++ (value_grounds schema document ++ merge_grounds schema document))))))
+
+-- why a document and the choice of its operation are refused, or nothing
+abbrev pub refusal_of : Schema → Document → Option (List ℕ) → Option Refusal
+refusal_of schema document name = first_ground (grounds schema document name)

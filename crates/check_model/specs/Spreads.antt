@@ -1,0 +1,70 @@
+-- Which fragments are spread where (GraphQL October 2021, 2.8 and 5.5.2.2).
+use Rattle.std.specs.Prelude.{ℕ, Bool, List, [], ◌∷◌, Option, map}
+use Rattle.std.specs.List.{flat_map, filter_map}
+use Rattle.std.specs.Option.{unwrap_or}
+use Rattle.gql_model.specs.declared.selection.Spread.{Spread}
+use Rattle.gql_model.specs.declared.selection.Field.{Field}
+use Rattle.gql_model.specs.declared.selection.InlineFragment.{InlineFragment}
+use Rattle.gql_model.specs.declared.selection.Selection.{Selection}
+use Rattle.gql_model.specs.declared.selection.SelectionSet.{SelectionSet}
+use Rattle.gql_model.specs.declared.selection.Selection.TheOpen.{SelectionSet-F, Selection-F, Field-F, InlineFragment-F}
+use Rattle.gql_model.specs.declared.selection.Selection.TheFolds.{fold-SelectionSet, fold-Selection, fold-Field, fold-InlineFragment}
+use Rattle.gql_model.specs.declared.document.Document.{Document}
+use Rattle.gql_model.specs.declared.document.Definition.{Definition}
+use Rattle.gql_model.specs.declared.document.Definition.TheVariants as definition
+use Rattle.check_model.specs.Executables.{fragment_place}
+use Rattle.digraph.specs.Walks.{Graph, reaches}
+
+-- the names that are spread in a selection, a field, an inline fragment or a set
+abbrev pub Spreads : Type 0
+Spreads = List (List ℕ)
+
+abbrev pub selection_spreads : Selection-F Spreads Spreads Spreads Spreads → Spreads
+selection_spreads (Selection-F.Field field) = field
+selection_spreads (Selection-F.Spread spread) = spread.name.text ∷ []
+selection_spreads (Selection-F.Inline fragment) = fragment
+
+abbrev pub field_spreads : Field-F Spreads Spreads Spreads Spreads → Spreads
+field_spreads field = unwrap_or field.selection_set []
+
+abbrev pub inline_spreads : InlineFragment-F Spreads Spreads Spreads Spreads → Spreads
+inline_spreads fragment = fragment.selection_set
+
+abbrev pub set_spreads : SelectionSet-F Spreads Spreads Spreads Spreads → Spreads
+set_spreads set = flat_map (λ names. names) set.selections
+
+-- the names of the fragments that a selection set spreads, at any depth
+abbrev pub spreads_in : SelectionSet → Spreads
+spreads_in = fold-SelectionSet Spreads Spreads Spreads Spreads selection_spreads field_spreads inline_spreads set_spreads
+
+abbrev pub spreads_of_selection : Selection → Spreads
+spreads_of_selection = fold-Selection Spreads Spreads Spreads Spreads selection_spreads field_spreads inline_spreads set_spreads
+
+abbrev pub spreads_of_field : Field → Spreads
+spreads_of_field = fold-Field Spreads Spreads Spreads Spreads selection_spreads field_spreads inline_spreads set_spreads
+
+abbrev pub spreads_of_inline : InlineFragment → Spreads
+spreads_of_inline = fold-InlineFragment Spreads Spreads Spreads Spreads selection_spreads field_spreads inline_spreads set_spreads
+
+-- the names that a definition spreads
+abbrev pub spread_names : Definition → Spreads
+spread_names (definition.Operation d) = spreads_in d.selection_set
+spread_names (definition.Fragment d) = spreads_in d.selection_set
+spread_names (definition.TypeSystem d) = []
+
+-- ---- definitions as the nodes of a graph, by their places
+
+-- the fragments of these names
+abbrev pub targets : Document → Spreads → List ℕ
+targets document names = filter_map (fragment_place document) names
+
+abbrev pub definition_targets : Document → Definition → List ℕ
+definition_targets document d = targets document (spread_names d)
+
+-- a step leads from a definition to each fragment that it spreads
+abbrev pub spread_graph : Document → Graph
+spread_graph document = map (definition_targets document) document.definitions
+
+-- whether the definition at a place reaches the one at another by spreads, one or more
+abbrev pub reaches_by_spreads : Document → ℕ → ℕ → Bool
+reaches_by_spreads document from to = reaches (spread_graph document) from to

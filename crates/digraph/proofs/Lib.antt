@@ -1,0 +1,4 @@
+mod CircleLaws
+mod ListLaws
+mod SearchLaws
+mod WalkLaws

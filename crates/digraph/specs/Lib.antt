@@ -1,0 +1,4 @@
+pub mod Clear
+pub mod Laws
+pub mod Searches
+pub mod Walks
