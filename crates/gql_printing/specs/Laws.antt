@@ -1,5 +1,5 @@
 -- What the canonical text of a document is read as.
-use Rattle.std.specs.Prelude.{◌≡◌, ℕ, List}
+use Rattle.std.specs.Prelude.{◌≡◌, ℕ, List, Ok}
 use Rattle.gql_model.specs.declared.document.Document.{Document}
 use Rattle.gql_model.specs.Documents.{IsDocument}
 use Rattle.gql_documents.specs.Documents.{document_of}
