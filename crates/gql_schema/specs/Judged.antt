@@ -10,6 +10,8 @@ use Rattle.schema_rules.specs.Unsatisfied.{unsatisfied_line}
 use Rattle.schema_rules.specs.Roots.{root_line}
 use Rattle.schema_defaults.specs.Empty.{empty_line}
 use Rattle.schema_defaults.specs.Defaults.{unfit_line}
+use Rattle.schema_circles.specs.Needs.{needs_itself_line}
+use Rattle.schema_circles.specs.Fillings.{fills_itself_line}
 use Rattle.gql_schema.specs.declared.error.Refusal.{Refusal}
 use Rattle.gql_schema.specs.declared.error.SchemaError.{SchemaError}
 use Rattle.gql_schema.specs.declared.error.SchemaError.TheVariants as error
@@ -24,9 +26,13 @@ coded code line = option_map (λ l. record { code = code; line = l }) line
 abbrev pub definitions_refusal : List TypeSystemForm → Option Refusal
 definitions_refusal forms = option_or (coded 3 (repeated_line forms)) (coded 4 (reserved_line forms))
 
--- S9: a type without parts, or a default that may not stand
+-- a type or a default that needs itself
+abbrev pub circle_line : Schema → Option ℕ
+circle_line schema = earlier (needs_itself_line schema) (fills_itself_line schema)
+
+-- S9: a type without parts, a default that may not stand, or a circle
 abbrev pub invalid_line : Schema → Option ℕ
-invalid_line schema = earlier (empty_line schema) (unfit_line schema)
+invalid_line schema = earlier (empty_line schema) (earlier (unfit_line schema) (circle_line schema))
 
 -- S5 to S9, which are said of the schema
 abbrev pub schema_refusal : Schema → Option Refusal

@@ -5,3 +5,4 @@ pub mod Marks
 pub mod Meaning
 pub mod Repeated
 pub mod Reserved
+pub mod Texts

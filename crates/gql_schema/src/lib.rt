@@ -1,11 +1,10 @@
-//! Which schema type system definitions make, and why some make none. It stands on the schemas of
-//! `schema_model`, on the trees of documents of `gql_model`, and on the grounds of `schema_rules` and
-//! `schema_defaults`.
+//! Reading a GraphQL schema: which schema a text gives, and why some give none. It stands on the schemas
+//! of `schema_model`, on the definitions that `schema_text` reads, and on the grounds of `schema_rules`,
+//! `schema_defaults` and `schema_circles`.
 //!
-//! [`judged`] gives the schema, or the least code that is broken and the least line of it. Each code
-//! has one definition, which may assume that the codes before it aren't broken. Of S9 the grounds of
-//! types without parts and of defaults are judged here; circles of input objects and of defaults are
-//! not yet.
+//! [`read_schema`] gives the schema of a text, or the least code that is broken and the least line of it.
+//! Each code S1 to S9 has one definition, which may assume that the codes before it aren't broken.
+//! [`judged`] is the same of definitions, from S3 on.
 #![tactic(auto)]
 
 mod assembled;
@@ -15,14 +14,18 @@ mod draft;
 mod error;
 mod ignored;
 mod listed;
+mod reading;
 mod repeated;
 mod reserved;
 mod roots;
+#[cfg(test)]
+mod schema_rows;
 #[cfg(test)]
 mod tests;
 mod verdict;
 
 pub use error::SchemaError;
+pub use reading::read_schema;
 pub use schema_model::{
     InputValue, Interfaced, RootName, RootNames, Schema, SchemaDirective, SchemaField, SchemaType,
     Table, TypeForm, TypeId, TypeKind,

@@ -1,7 +1,7 @@
 ghost use Rattle.std.specs.Prelude.{◌≡◌, None, IfOk, OnOk, IfErr};
 ghost use Rattle.gql_schema.specs.Ignored.{considered};
 ghost use Rattle.gql_schema.specs.Meaning.{schema_of};
-ghost use Rattle.gql_schema.specs.Judged.{coded, definitions_refusal, schema_refusal, refusal_of, IsRefusal};
+ghost use Rattle.gql_schema.specs.Judged.{coded, definitions_refusal, schema_refusal, invalid_line, refusal_of, IsRefusal};
 
 use crate::assembled::assembled;
 use crate::error::{Refusal, SchemaError};
@@ -9,6 +9,7 @@ use crate::ignored::leave_out_ignored;
 use crate::repeated::repeated_line;
 use crate::reserved::reserved_line;
 use gql_model::TypeSystemForm;
+use schema_circles::{fills_itself_line, needs_itself_line};
 use schema_defaults::{empty_line, unfit_line};
 use schema_model::Schema;
 use schema_rules::{earlier, misplaced_line, root_line, unknown_line, unsatisfied_line};
@@ -58,9 +59,18 @@ fn schema_refusal(alloc: Global, schema: &Schema) -> Result<Option<Refusal>, Mem
     let misplaced = coded(6, misplaced_line(schema));
     let unsatisfied = coded(7, unsatisfied_line(schema));
     let roots = coded(8, root_line(schema));
-    let unfit = unfit_line(alloc, schema)?;
-    let invalid = coded(9, earlier(empty_line(schema), unfit));
+    let invalid = coded(9, invalid_line(alloc, schema)?);
     Ok(unknown.or(misplaced.or(unsatisfied.or(roots.or(invalid)))))
+}
+
+/// The least line of S9.
+fn invalid_line(alloc: Global, schema: &Schema) -> Result<Option<u64>, Memory>
+    ensures { IfOk result (λ line. line ≡ invalid_line schema.now) }
+{
+    let unfit = unfit_line(alloc, schema)?;
+    let needs = needs_itself_line(alloc, schema)?;
+    let fills = fills_itself_line(alloc, schema)?;
+    Ok(earlier(empty_line(schema), earlier(unfit, earlier(needs, fills))))
 }
 
 fn coded(code: u8, line: Option<u64>) -> Option<Refusal>

@@ -1,0 +1,3 @@
+mod FirstLaws
+mod OrderLaws
+mod TabledLaws

@@ -1,0 +1,3 @@
+pub mod Depth
+pub mod Extensions
+pub mod Texts
