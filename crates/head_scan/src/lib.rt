@@ -16,11 +16,9 @@ mod step;
 #[cfg(test)]
 mod tests;
 
-pub use lines::{EndedLines, lines_ended};
-pub use place::{Place, Step};
-pub use request::{Fields, RequestScan};
+pub use lines::lines_ended;
+pub use request::RequestScan;
 pub use response::ResponseScan;
-pub use step::placed;
 
 /// The bytes of a head, from the first byte of its message.
 pub const HEAD_LIMIT: usize = 65_536;

@@ -34,7 +34,7 @@ pub(crate) fn behind_empty_lines(bytes: &[u8]) -> &[u8]
 
 /// How many lines of the bytes so far have ended. Past the lines of a head it counts no further.
 #[derive(Clone, Copy, Debug, PartialEq, Eq)]
-pub struct EndedLines {
+pub(crate) struct EndedLines {
     /// Whether the start line has begun.
     pub(crate) begun: bool,
     pub(crate) ended: usize,
@@ -45,7 +45,7 @@ impl EndedLines {
     ghost use Rattle.head_scan.specs.Scans.{Counts};
 
     /// Of no bytes.
-    pub fn none() -> EndedLines
+    pub(crate) fn none() -> EndedLines
         ensures { Counts result [] }
     {
         EndedLines {
@@ -55,7 +55,7 @@ impl EndedLines {
     }
 
     /// Takes further bytes.
-    pub fn take(&mut self, bytes: &[u8])
+    pub(crate) fn take(&mut self, bytes: &[u8])
         ensures { (seen : List ℕ) → Counts self.old seen → Counts self.new (seen ++ bytes.now) }
     {
         if self.ended > FIELD_LIMIT + 1 {

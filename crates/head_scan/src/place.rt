@@ -1,6 +1,6 @@
 /// Where the bytes of a head stand (RFC 9112, 2 to 5).
 #[derive(Clone, Copy, Debug, PartialEq, Eq)]
-pub enum Place {
+pub(crate) enum Place {
     /// Before the start line, where empty lines are passed over.
     EmptyLines,
     /// Behind the carriage return of an empty line.
@@ -25,7 +25,7 @@ pub enum Place {
 
 /// What one more byte leads to.
 #[derive(Clone, Copy, Debug, PartialEq, Eq)]
-pub enum Step {
+pub(crate) enum Step {
     Stands(Place),
     /// It ends the head.
     Ends,

@@ -12,7 +12,7 @@ use text_types::Memory;
 
 /// Where the bytes behind a request line stand.
 #[derive(Clone, Copy, Debug)]
-pub enum Fields {
+pub(crate) enum Fields {
     /// The request line hasn't ended.
     Awaited,
     Within(Place),

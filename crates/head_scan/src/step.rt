@@ -11,7 +11,7 @@ use httparse::{is_header_name_token, is_header_value_token};
 const VERSION_FRONT: &[u8] = b"HTTP/1.";
 
 /// Where further bytes of a head lead, if they stay within it.
-pub fn placed(from: Place, bytes: &[u8]) -> Option<Place>
+pub(crate) fn placed(from: Place, bytes: &[u8]) -> Option<Place>
     ensures { result ≡ place_of (spec.placed from bytes.now) }
 {
     let mut place = from;

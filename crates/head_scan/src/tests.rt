@@ -1,4 +1,6 @@
-use crate::{Place, RequestScan, ResponseScan, placed};
+use crate::place::Place;
+use crate::step::placed;
+use crate::{RequestScan, ResponseScan};
 use std::alloc::Global;
 use std::test::Fail;
 
