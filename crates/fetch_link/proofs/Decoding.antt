@@ -1,16 +1,14 @@
 -- What all bytes so far come to, from what is kept of them.
-use Rattle.std.proofs.Common.{◌≡◌, inl, inr, ℕ, ◌+◌, ◌<◌, ◌≤◌, false, List, [], ◌∷◌, ◌++◌, length, drop, refl, ap, sym, subst, ◌∙◌, arith, append_assoc, append-nil}
+use Rattle.std.proofs.Common.{◌≡◌, inr, ℕ, ◌+◌, ◌<◌, ◌≤◌, false, List, [], ◌∷◌, ◌++◌, length, drop, refl, ap, sym, subst, ◌∙◌, arith, append_assoc, append-nil}
 use Rattle.std.proofs.lemmas.List.{length-append}
 use Rattle.std.proofs.lemmas.Grind.{flat_map-append}
 use Rattle.std.proofs.lemmas.List.Elements.{All-nil, All-cons, All-append}
 use Rattle.std.specs.List.{flat_map}
 use Rattle.httparse.specs.Grammar.{ResponseHead, print_response, status_code, ReadsResponse, IsResponseHead}
 use Rattle.httparse.proofs.GrammarLemmas.{response_unique, ReadsResponse-append}
-use Rattle.gql_value.specs.Outcome.{bad}
-use Rattle.gql_value.specs.declared.outcome.Fault.TheVariants.{F7}
-use Rattle.http_model.specs.Heads.{IsWholeResponse, IsOpenResponse, IsBadResponse, lines_ended}
-use Rattle.http_model.specs.Message.{Progress, wants, done, body_progress, framing_of, is_interim, IsInterim, BehindInterim, IsFinal, Decoded}
-use Rattle.fetch_link.specs.Fetching.{HasNoHead, InHead, IsInterimAt}
+use Rattle.http_model.specs.Heads.{IsWholeResponse, lines_ended}
+use Rattle.http_model.specs.Message.{Progress, body_progress, framing_of, is_interim, IsInterim, BehindInterim, IsFinal, Decoded}
+use Rattle.fetch_link.specs.Fetching.{HasNoHead, IsInterimAt}
 use Rattle.fetch_link.proofs.LineCounts.{lines_ended-response}
 
 has_line : (bytes : List ℕ) (n : ℕ) → lines_ended bytes ≡ n + 2 → 0 < length bytes
@@ -63,18 +61,6 @@ BehindInterim-more seen bytes size at behind =
 -- another head of the same bytes is the same
 pub same_status : (bytes : List ℕ) (h k : ResponseHead) (rest more : List ℕ) → IsWholeResponse bytes h rest → IsWholeResponse bytes k more → is_interim (status_code h) ≡ false → is_interim (status_code k) ≡ false
 same_status bytes h k rest more one other final = subst (λ g. is_interim (status_code g) ≡ false) (response_unique bytes h k rest more one.reads other.reads).0 final
-
--- an open head wants more
-pub open-gives : (seen bytes kept : List ℕ) → kept ≡ bytes → IsOpenResponse bytes → BehindInterim seen bytes → InHead seen kept × Decoded seen wants
-open-gives seen bytes kept same pending behind =
-    let none : HasNoHead bytes = λ h rest whole. pending.none h rest whole.reads in (
-      record { behind = subst (BehindInterim seen) (sym same) behind; none = subst HasNoHead (sym same) none },
-      record { rest = bytes; behind = behind; gives = inl (pending, refl) },
-    )
-
--- a bad head is a fault
-pub bad-gives : (seen bytes : List ℕ) → IsBadResponse bytes → BehindInterim seen bytes → Decoded seen (done (bad F7))
-bad-gives seen bytes is behind = record { rest = bytes; behind = behind; gives = inr (inl (is, refl)) }
 
 -- a final head comes to what its body comes to
 pub final-gives : (seen rest : List ℕ) (h : ResponseHead) (came : List ℕ) (progress : Progress) → BehindInterim seen rest → IsFinal rest h came → body_progress (status_code h) (framing_of h) came ≡ progress → Decoded seen progress

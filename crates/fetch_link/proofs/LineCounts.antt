@@ -2,7 +2,7 @@
 use Rattle.std.proofs.Common.{◌≡◌, ◌≢◌, ℕ, ◌+◌, ◌<◌, ◌≤◌, ◌==◌, Bool, true, false, IsTrue, All, List, [], ◌∷◌, ◌++◌, length, count_by, codes, Option, None, Some, if◌then◌else◌, cond, refl, ap, ap₂, sym, ◌∙◌, subst, arith, append-nil, zero-add}
 use Rattle.std.proofs.lemmas.Bool.Decides.{nat_tests}
 use Rattle.std.proofs.lemmas.List.Elements.{All-head, All-tail}
-use Rattle.std.proofs.lemmas.List.Sums.{sum_by-cons, sum_by-append}
+use Rattle.std.proofs.lemmas.List.Sums.{sum_by-cons}
 use Rattle.std.specs.List.{flat_map}
 use Rattle.std.specs.Char.{is_ascii_digit}
 use Rattle.httparse.specs.Pieces.{is_newline}
@@ -10,10 +10,7 @@ use Rattle.httparse.specs.Grammar.{is_token_byte, is_value_byte, AllPass, LineEn
 use Rattle.httparse.proofs.GrammarLemmas.{print_response-append}
 use Rattle.httparse.specs.Spans.{ResponseExceeds}
 use Rattle.http_model.specs.Heads.{skip_empty_lines, lines_ended}
-
--- the line feeds among bytes
-abbrev pub feeds : List ℕ → ℕ
-feeds bytes = count_by (λ b. b == 10) bytes
+use Rattle.head_scan.proofs.Counting.{feeds, feeds-append, lines_ended-append}
 
 -- 1 for a line feed
 abbrev one : ℕ → ℕ
@@ -21,9 +18,6 @@ one b = cond (b == 10) 1 0
 
 pub feeds-cons : (b : ℕ) (bytes : List ℕ) → feeds (b ∷ bytes) ≡ one b + feeds bytes
 feeds-cons b bytes = sum_by-cons one b bytes
-
-pub feeds-append : (xs ys : List ℕ) → feeds (xs ++ ys) ≡ feeds xs + feeds ys
-feeds-append xs ys = sum_by-append one xs ys
 
 one-le : (b : ℕ) → one b ≤ 1
 one-le b = elim (b == 10) as (λ t. cond t 1 0 ≤ 1) [ true ↦ omega arith | false ↦ omega arith ]
@@ -61,15 +55,6 @@ lines_ended-push (x ∷ bytes) b =
     elim (is_newline x) as (λ t. feeds (if t then skip_empty_lines (bytes ++ b ∷ []) else x ∷ (bytes ++ b ∷ [])) ≤ feeds (if t then skip_empty_lines bytes else x ∷ bytes) + 1) [
       | true ↦ lines_ended-push bytes b
       | false ↦ omega (arith, feeds-append (x ∷ bytes) (b ∷ []), feeds-one b)
-    ]
-
--- more bytes end no fewer lines
-pub lines_ended-append : (bytes more : List ℕ) → lines_ended bytes ≤ lines_ended (bytes ++ more)
-lines_ended-append [] more = omega arith
-lines_ended-append (x ∷ bytes) more =
-    elim (is_newline x) as (λ t. feeds (if t then skip_empty_lines bytes else x ∷ bytes) ≤ feeds (if t then skip_empty_lines (bytes ++ more) else x ∷ (bytes ++ more))) [
-      | true ↦ lines_ended-append bytes more
-      | false ↦ omega (arith, feeds-append (x ∷ bytes) more)
     ]
 
 pub token-feed : is_token_byte 10 ≡ false

@@ -15,7 +15,8 @@ use Rattle.httparse.proofs.GrammarLemmas.{request_unique, print_request-append}
 use Rattle.http_model.specs.Heads.{skip_empty_lines, lines_ended}
 use Rattle.http_model.specs.Requests.{IsBadRequest, IsUnread}
 use Rattle.fetch_link.proofs.HeadLaws.{known}
-use Rattle.fetch_link.proofs.LineCounts.{feeds, feeds-cons, feeds-append, feeds-none, feeds-end, feeds-section, token-feed, skip-blank, lines_ended-push, lines_ended-append, version-feeds}
+use Rattle.head_scan.proofs.Counting.{feeds, feeds-append, lines_ended-append}
+use Rattle.fetch_link.proofs.LineCounts.{feeds-cons, feeds-none, feeds-end, feeds-section, token-feed, skip-blank, lines_ended-push, version-feeds}
 
 lines_ended-le : (bytes : List ℕ) → lines_ended bytes ≤ feeds bytes
 lines_ended-le [] = omega arith
@@ -79,6 +80,12 @@ lines_ended-request h is =
       feeds-append (print_section h.fields h.last) [],
       feeds-section h.fields h.last is.fields,
     )
+
+-- where no line has ended no head is whole
+pub unread-whole : (bytes : List ℕ) (h : RequestHead) (rest : List ℕ) → IsUnread bytes → ReadsRequest bytes h rest → ⊥
+unread-whole bytes h rest unread reads =
+    let all : lines_ended (print_request h) ≤ lines_ended bytes = subst (λ b. lines_ended (print_request h) ≤ lines_ended b) (sym reads.1) (lines_ended-append (print_request h) rest) in
+    omega (arith, all, unread.0, lines_ended-request h reads.0)
 
 lines_ended-exceeds : (room : ℕ) (bytes : List ℕ) → RequestExceeds room bytes → room + 1 < lines_ended bytes
 lines_ended-exceeds room bytes over =

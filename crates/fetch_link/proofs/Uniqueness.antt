@@ -1,10 +1,12 @@
--- The same bytes come to one thing alone.
+-- The same bytes come to one thing alone, and ask one thing alone.
 use Rattle.std.proofs.Common.{◌≡◌, inl, inr, ℕ, true, false, List, [], ◌∷◌, ◌++◌, All, refl, ap, ap₂, sym, subst, ◌∙◌, append_assoc}
 use Rattle.std.proofs.lemmas.List.Elements.{All-head, All-tail}
 use Rattle.std.specs.List.{flat_map}
-use Rattle.httparse.specs.Grammar.{ResponseHead, print_response, status_code}
-use Rattle.httparse.proofs.GrammarLemmas.{response_unique}
+use Rattle.httparse.specs.Grammar.{ResponseHead, print_response, status_code, RequestHead}
+use Rattle.httparse.proofs.GrammarLemmas.{response_unique, request_unique}
 use Rattle.http_model.specs.Heads.{IsWholeResponse}
+use Rattle.http_model.specs.Requests.{Asking, Asks, asking, body_so_far, request_framing_of}
+use Rattle.fetch_link.proofs.RequestLaws.{unread-whole}
 use Rattle.http_model.specs.Message.{Progress, body_progress, framing_of, is_interim, IsInterim, FinalGives, Decoded}
 
 -- what a final head comes to is one thing
@@ -55,3 +57,23 @@ once_from (h ∷ xs) (k ∷ ys) bytes r s p q one other each all gives same =
 
 pub decoded_once : (bytes : List ℕ) (one other : Progress) → Decoded bytes one → Decoded bytes other → one ≡ other
 decoded_once bytes one other a b = once_from a.behind.interim b.behind.interim bytes a.rest b.rest one other a.behind.split b.behind.split a.behind.each b.behind.each a.gives b.gives
+
+pub asked_once : (bytes : List ℕ) (p q : Asking) → Asks bytes p → Asks bytes q → p ≡ q
+asked_once bytes p q (inl a) (inl b) = a.1 ∙ sym b.1
+asked_once bytes p q (inl a) (inr (inl b)) = a.1 ∙ sym b.1
+asked_once bytes p q (inl a) (inr (inr (inl b))) = absurd (b.0.read a.0)
+asked_once bytes p q (inl a) (inr (inr (inr b))) = absurd (unread-whole bytes b.0 b.1 a.0 b.2.reads)
+asked_once bytes p q (inr (inl a)) (inl b) = a.1 ∙ sym b.1
+asked_once bytes p q (inr (inl a)) (inr (inl b)) = a.1 ∙ sym b.1
+asked_once bytes p q (inr (inl a)) (inr (inr (inl b))) = absurd (b.0.stuck a.0)
+asked_once bytes p q (inr (inl a)) (inr (inr (inr b))) = absurd (a.0.none b.0 b.1 b.2.reads)
+asked_once bytes p q (inr (inr (inl a))) (inl b) = absurd (a.0.read b.0)
+asked_once bytes p q (inr (inr (inl a))) (inr (inl b)) = absurd (a.0.stuck b.0)
+asked_once bytes p q (inr (inr (inl a))) (inr (inr (inl b))) = a.1 ∙ sym b.1
+asked_once bytes p q (inr (inr (inl a))) (inr (inr (inr b))) = absurd (a.0.none b.0 b.1 b.2)
+asked_once bytes p q (inr (inr (inr a))) (inl b) = absurd (unread-whole bytes a.0 a.1 b.0 a.2.reads)
+asked_once bytes p q (inr (inr (inr a))) (inr (inl b)) = absurd (b.0.none a.0 a.1 a.2.reads)
+asked_once bytes p q (inr (inr (inr a))) (inr (inr (inl b))) = absurd (b.0.none a.0 a.1 a.2)
+asked_once bytes p q (inr (inr (inr a))) (inr (inr (inr b))) =
+    let same = request_unique bytes a.0 b.0 a.1 b.1 a.2.reads b.2.reads in
+    a.3 ∙ ap₂ (λ (h : RequestHead) (came : List ℕ). asking h (body_so_far (request_framing_of h) came)) same.0 same.1 ∙ sym b.3

@@ -4,8 +4,10 @@ use Rattle.httparse.specs.Grammar.{ResponseHead, status_code}
 use Rattle.gql_value.specs.Outcome.{meaning_of}
 use Rattle.http_model.specs.Heads.{IsWholeResponse}
 use Rattle.http_model.specs.Message.{wants, done, is_interim, framing_of, BehindInterim, IsFinal, Decoded}
+use Rattle.head_scan.specs.Scans.{ScansResponse}
 use Rattle.fetch_link.specs.Bodies.{Keeps}
 use Rattle.fetch_link.specs.declared.body.Body.{Body}
+use Rattle.fetch_link.specs.declared.fetch.HeadSoFar.{HeadSoFar}
 use Rattle.fetch_link.specs.declared.fetch.State.{State}
 use Rattle.fetch_link.specs.declared.fetch.State.TheVariants as state
 use Rattle.fetch_link.specs.declared.fetch.Step.{Step}
@@ -16,9 +18,10 @@ abbrev pub HasNoHead : List ℕ → Type 0
 HasNoHead bytes = (head : ResponseHead) (rest : List ℕ) → ¬ (IsWholeResponse bytes head rest)
 
 -- the bytes so far are heads of interim responses, and then these, which have no whole head yet
-pub record InHead (seen kept : List ℕ) : Type 0 where
-  pub behind : BehindInterim seen kept
-  pub none : HasNoHead kept
+pub record InHead (seen : List ℕ) (kept : HeadSoFar) : Type 0 where
+  pub behind : BehindInterim seen kept.bytes
+  pub none : HasNoHead kept.bytes
+  pub scans : ScansResponse kept.scan kept.bytes
 
 -- the bytes so far are heads of interim responses, a final head, and what came of its body
 pub record InBody (seen : List ℕ) (body : Body) : Type 0 where

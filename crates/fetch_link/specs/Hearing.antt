@@ -2,6 +2,7 @@
 use Rattle.std.specs.Prelude.{◌≡◌, ℕ, List}
 use Rattle.httparse.specs.Grammar.{RequestHead}
 use Rattle.http_model.specs.Requests.{IsWholeRequest, request_framing_of, Asks, wants_more, asks, refuses}
+use Rattle.head_scan.specs.Scans.{ScansRequest}
 use Rattle.fetch_link.specs.Received.{KeepsPending}
 use Rattle.fetch_link.specs.declared.hearing.Begun.{Begun}
 use Rattle.fetch_link.specs.declared.hearing.Heard.{Heard}
@@ -20,7 +21,7 @@ pub record IsBegun (seen : List ℕ) (begun : Begun) : Type 0 where
 
 -- what is kept stands for all the bytes so far
 abbrev pub Hears : Heard → List ℕ → Type 0
-Hears (heard.Head kept) seen = kept ≡ seen
+Hears (heard.Head kept) seen = (kept.bytes ≡ seen) × ScansRequest kept.scan seen
 Hears (heard.Body begun) seen = IsBegun seen begun
 
 -- after further bytes: what is kept stands for all of them and they want more, or they ask or are refused

@@ -1,7 +1,12 @@
--- What all bytes so far come to is told once and for all.
+-- What all bytes so far come to, or ask, is told once and for all.
 use Rattle.std.specs.Prelude.{◌≡◌, ℕ, List}
 use Rattle.http_model.specs.Message.{Progress, Decoded}
+use Rattle.http_model.specs.Requests.{Asking, Asks}
 
 -- the same bytes come to one thing alone, so it can't depend on how they were cut
 abbrev pub IsDecodedOnce : Type 0
 IsDecodedOnce = (bytes : List ℕ) (one other : Progress) → Decoded bytes one → Decoded bytes other → one ≡ other
+
+-- the same for a request
+abbrev pub IsAskedOnce : Type 0
+IsAskedOnce = (bytes : List ℕ) (one other : Asking) → Asks bytes one → Asks bytes other → one ≡ other

@@ -1,23 +1,32 @@
 //! The response to one fetch.
 
-ghost use Rattle.std.specs.Prelude.{◌≡◌, ◌≤◌, ◌<◌, ◌++◌, ℕ, List, false, length, IfOk, IfSome, IfNone};
+ghost use Rattle.std.specs.Prelude.{◌≡◌, ◌≤◌, ◌<◌, ◌++◌, [], ℕ, List, false, length, IfOk, IfSome, IfNone};
 ghost use Rattle.httparse.specs.Grammar.{ResponseHead, status_code};
 ghost use Rattle.http_model.specs.Heads.{IsWholeResponse};
 ghost use Rattle.http_model.specs.Message as spec;
 ghost use Rattle.http_model.specs.Message.{BehindInterim};
+ghost use Rattle.head_scan.specs.Scans.{ScansResponse};
 ghost use Rattle.fetch_link.specs.Fetching.{InBody, InHead, IsInterimAt, Stands, StepGives};
 
 use crate::body::{Body, BodyStep, begin_body, take_body};
 use crate::head::{Judged, judge_response};
 use gql_value::{Fault, Outcome};
+use head_scan::ResponseScan;
 use std::alloc::Global;
 use text_types::{Bytes, Memory};
+
+/// The bytes behind the heads of interim responses.
+#[derive(Debug, Drop)]
+pub(crate) struct HeadSoFar {
+    pub(crate) bytes: Bytes,
+    /// Where they stand, so that only further bytes are looked at until the head has ended.
+    pub(crate) scan: ResponseScan,
+}
 
 /// What is kept of the bytes so far.
 #[derive(Debug, Drop)]
 pub(crate) enum State {
-    /// Those behind the heads of interim responses.
-    Head(Bytes),
+    Head(HeadSoFar),
     /// The body behind the final head.
     Body(Body),
 }
@@ -48,11 +57,15 @@ fn more_body(alloc: Global, body: Body, bytes: &[u8]) -> Result<Step, Memory>
     }
 }
 
-fn more_head(alloc: Global, mut head: Bytes, bytes: &[u8]) -> Result<Step, Memory>
+fn more_head(alloc: Global, mut head: HeadSoFar, bytes: &[u8]) -> Result<Step, Memory>
     ensures { (seen : List ℕ) → InHead seen head → IfOk result (λ step. StepGives step (seen ++ bytes.now)) }
 {
-    head.append(bytes)?;
-    read_head(alloc, head.as_slice())
+    head.bytes.append(bytes)?;
+    head.scan.take(bytes);
+    if head.scan.is_open(head.bytes.len()) {
+        return Ok(Step::Wants(State::Head(head)));
+    }
+    read_head(alloc, head.bytes.as_slice())
 }
 
 /// Reads the head of a response, and what came of its body.
@@ -68,7 +81,7 @@ fn read_final(alloc: Global, bytes: &[u8]) -> Result<Step, Memory>
     ensures { (seen : List ℕ) → BehindInterim seen bytes.now → IfOk result (λ step. StepGives step seen) }
 {
     match judge_response(bytes) {
-        Judged::Open => Ok(Step::Wants(State::Head(copied(alloc, bytes)?))),
+        Judged::Open => Ok(Step::Wants(State::Head(head_of(alloc, bytes)?))),
         Judged::Bad => Ok(Step::Done(Outcome::Bad(Fault::F7))),
         Judged::Whole {
             status,
@@ -84,12 +97,25 @@ fn read_final(alloc: Global, bytes: &[u8]) -> Result<Step, Memory>
     }
 }
 
-fn copied(alloc: Global, bytes: &[u8]) -> Result<Bytes, Memory>
-    ensures { IfOk result (λ copy. copy ≡ bytes.now) }
+/// No bytes yet.
+pub(crate) fn no_head(alloc: Global) -> HeadSoFar
+    ensures bytes { result.bytes ≡ [] }
+    ensures scan { ScansResponse result.scan [] }
 {
-    let mut copy = Bytes::new(alloc);
-    copy.append(bytes)?;
-    Ok(copy)
+    HeadSoFar {
+        bytes: Bytes::new(alloc),
+        scan: ResponseScan::start(),
+    }
+}
+
+fn head_of(alloc: Global, bytes: &[u8]) -> Result<HeadSoFar, Memory>
+    ensures bytes { IfOk result (λ head. head.bytes ≡ bytes.now) }
+    ensures scan { IfOk result (λ head. ScansResponse head.scan bytes.now) }
+{
+    let mut head = no_head(alloc);
+    head.bytes.append(bytes)?;
+    head.scan.take(bytes);
+    Ok(head)
 }
 
 /// What stands behind the heads of interim responses.

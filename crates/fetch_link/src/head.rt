@@ -1,21 +1,14 @@
 //! The head of a response (RFC 9112, 2 to 5).
 
-ghost use Rattle.std.specs.Prelude.{◌==◌, ◌≡◌, count_by};
 ghost use Rattle.httparse.specs.Grammar.{HasNoResponse, MayBecomeResponse};
 ghost use Rattle.httparse.specs.Spans.{IsResponseOf, IsResponseWithin};
-ghost use Rattle.http_model.specs.Heads as spec;
 ghost use Rattle.fetch_link.specs.Heads.{IsJudgement};
 
 use crate::framing::response_framing;
+use head_scan::{FIELD_LIMIT, HEAD_LIMIT, lines_ended};
 use http_model::Framing;
 use httparse::Status;
 use httparse::spans::{EMPTY_HEADER_SPAN, HeaderSpan, ResponseSpans, parse_response};
-
-/// The bytes of a head, from the first byte of its message.
-pub(crate) const HEAD_LIMIT: usize = 65_536;
-
-/// The field lines of a head.
-pub(crate) const FIELD_LIMIT: usize = 100;
 
 /// Room for one field line more, so that a head within the room tells its exact count.
 pub(crate) const ROOM: usize = 101;
@@ -74,30 +67,4 @@ fn open_head(bytes: &[u8]) -> Judged
     } else {
         Judged::Open
     }
-}
-
-/// How many lines have ended, from the start line on.
-pub(crate) fn lines_ended(bytes: &[u8]) -> usize
-    ensures { result ≡ spec.lines_ended bytes.now }
-{
-    line_feeds(behind_empty_lines(bytes))
-}
-
-fn line_feeds(bytes: &[u8]) -> usize
-    ensures { result ≡ count_by (λ b. b == 10) bytes.now }
-{
-    bytes.iter().filter(|byte| **byte == b'\n').count()
-}
-
-fn behind_empty_lines(bytes: &[u8]) -> &[u8]
-    ensures { result.now ≡ spec.skip_empty_lines bytes.now }
-{
-    let mut rest = bytes;
-    'lines: while let Some((byte, behind)) = rest.split_first() {
-        if *byte != b'\r' && *byte != b'\n' {
-            return rest;
-        }
-        rest = behind;
-    }
-    rest
 }

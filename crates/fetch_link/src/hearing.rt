@@ -1,15 +1,17 @@
 //! A request, as its bytes come.
 
-ghost use Rattle.std.specs.Prelude.{◌≡◌, ◌≤◌, ◌++◌, ℕ, List, IfOk, IsUtf8, length};
+ghost use Rattle.std.specs.Prelude.{◌≡◌, ◌≤◌, ◌++◌, [], ℕ, List, IfOk, IsUtf8, length};
 ghost use Rattle.httparse.specs.Grammar.{RequestHead};
 ghost use Rattle.httparse.specs.Spans.{IsWithin, span_bytes};
 ghost use Rattle.http_model.specs.Requests.{IsWholeRequest, request_framing_of};
+ghost use Rattle.head_scan.specs.Scans.{ScansRequest};
 ghost use Rattle.fetch_link.specs.Received.{ReceivedGives};
 ghost use Rattle.fetch_link.specs.RequestHeads.{IsRequestHeadAt};
 ghost use Rattle.fetch_link.specs.Hearing.{HearingGives, Hears, IsBegun};
 
 use crate::received::{Pending, Received, begin, receive};
 use crate::request_head::{JudgedRequest, judge_request};
+use head_scan::RequestScan;
 use http_model::Framing;
 use httparse::spans::Span;
 use std::alloc::Global;
@@ -24,10 +26,18 @@ pub(crate) struct Begun {
     pub(crate) kept: Bytes,
 }
 
+/// The bytes of a head.
+#[derive(Debug, Drop)]
+pub(crate) struct HeadSoFar {
+    pub(crate) bytes: Bytes,
+    /// Where they stand, so that only further bytes are looked at until the head has ended.
+    pub(crate) scan: RequestScan,
+}
+
 /// What is kept of the bytes so far.
 #[derive(Debug, Drop)]
 pub(crate) enum Heard {
-    Head(Bytes),
+    Head(HeadSoFar),
     Body(Begun),
 }
 
@@ -53,17 +63,32 @@ pub(crate) fn hear(alloc: Global, heard: Heard, bytes: &[u8]) -> Result<Hearing,
     }
 }
 
-fn more_head(alloc: Global, mut head: Bytes, bytes: &[u8]) -> Result<Hearing, Memory>
-    ensures { IfOk result (λ hearing. HearingGives hearing (head ++ bytes.now)) }
+/// No bytes yet.
+pub(crate) fn no_head(alloc: Global) -> HeadSoFar
+    ensures bytes { result.bytes ≡ [] }
+    ensures scan { ScansRequest result.scan [] }
 {
-    head.append(bytes)?;
-    Ok(read_request(alloc, head)?)
+    HeadSoFar {
+        bytes: Bytes::new(alloc),
+        scan: RequestScan::start(),
+    }
 }
 
-fn read_request(alloc: Global, head: Bytes) -> Result<Hearing, Memory>
-    ensures { IfOk result (λ hearing. HearingGives hearing head) }
+fn more_head(alloc: Global, mut head: HeadSoFar, bytes: &[u8]) -> Result<Hearing, Memory>
+    ensures { ScansRequest head.scan head.bytes → IfOk result (λ hearing. HearingGives hearing (head.bytes ++ bytes.now)) }
 {
-    match judge_request(head.as_slice()) {
+    head.bytes.append(bytes)?;
+    head.scan.take(alloc, head.bytes.as_slice(), bytes)?;
+    if head.scan.is_open(head.bytes.len()) {
+        return Ok(Hearing::Wants(Heard::Head(head)));
+    }
+    read_request(alloc, head)
+}
+
+fn read_request(alloc: Global, head: HeadSoFar) -> Result<Hearing, Memory>
+    ensures { ScansRequest head.scan head.bytes → IfOk result (λ hearing. HearingGives hearing head.bytes) }
+{
+    match judge_request(head.bytes.as_slice()) {
         JudgedRequest::Unread => Ok(Hearing::Wants(Heard::Head(head))),
         JudgedRequest::Open => Ok(Hearing::Wants(Heard::Head(head))),
         JudgedRequest::Bad => Ok(Hearing::Refuses(400)),
@@ -72,7 +97,7 @@ fn read_request(alloc: Global, head: Bytes) -> Result<Hearing, Memory>
             path,
             framing,
             len,
-        } => read_whole(alloc, head.as_slice(), method, path, framing, len),
+        } => read_whole(alloc, head.bytes.as_slice(), method, path, framing, len),
     }
 }
 

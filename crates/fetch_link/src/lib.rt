@@ -1,6 +1,6 @@
 //! HTTP/1.1 messages on both sides of the gateway, byte by byte as they come: the response of the
-//! origin to a fetch, and the request of a client. It stands on `httparse` for the heads and on
-//! `http_model` for what bytes are.
+//! origin to a fetch, and the request of a client. It stands on `httparse` for the heads, on
+//! `head_scan` for looking at their bytes once, and on `http_model` for what bytes are.
 //!
 //! The layer above has one contract: where [`Fetch::poll`], [`Fetch::ended`] and [`Request::poll`]
 //! answer, they answer what all bytes so far come to, however they were cut.
@@ -23,7 +23,7 @@ mod serving;
 #[cfg(test)]
 mod tests;
 
-pub use laws::decoded_once;
+pub use laws::{asked_once, decoded_once};
 pub use reply::reply_text;
 pub use request::request_text;
 pub use response::{Fetch, Progress};

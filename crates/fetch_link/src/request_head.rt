@@ -6,7 +6,8 @@ ghost use Rattle.httparse.specs.Grammar.{HasNoRequest, MayBecomeRequest};
 ghost use Rattle.fetch_link.specs.RequestHeads.{IsRead, IsRequestJudgement};
 
 use crate::framing::stated_framing;
-use crate::head::{FIELD_LIMIT, HEAD_LIMIT, ROOM, lines_ended};
+use crate::head::ROOM;
+use head_scan::{FIELD_LIMIT, HEAD_LIMIT, lines_ended};
 use http_model::Framing;
 use httparse::Status;
 use httparse::spans::{EMPTY_HEADER_SPAN, HeaderSpan, RequestSpans, Span, parse_request};

@@ -1,9 +1,9 @@
 use crate::closing::closed;
-use crate::fetch::{State, Step, advance};
+use crate::fetch::{State, Step, advance, no_head};
 use gql_value::Outcome;
 use std::alloc::Global;
 use std::mem;
-use text_types::{Bytes, Memory};
+use text_types::Memory;
 
 /// What the bytes of a response so far come to.
 #[derive(Debug, Drop)]
@@ -33,7 +33,7 @@ impl Fetch {
     {
         Fetch {
             alloc,
-            state: State::Head(Bytes::new(alloc)),
+            state: State::Head(no_head(alloc)),
         }
     }
 
@@ -42,7 +42,7 @@ impl Fetch {
         ensures { (seen : List ℕ) → HasTaken self.old seen → IfOk result (λ progress. PollGives progress self.new (seen ++ bytes.now)) }
     {
         let alloc = self.alloc;
-        let state = mem::replace(&mut self.state, State::Head(Bytes::new(alloc)));
+        let state = mem::replace(&mut self.state, State::Head(no_head(alloc)));
         match advance(alloc, state, bytes)? {
             Step::Wants(state) => {
                 self.state = state;

@@ -1,4 +1,4 @@
-use crate::hearing::{Heard, Hearing, hear};
+use crate::hearing::{Heard, Hearing, hear, no_head};
 use std::alloc::Global;
 use std::mem;
 use text_types::{Bytes, Memory, Text};
@@ -36,7 +36,7 @@ impl Request {
     {
         Request {
             alloc,
-            heard: Heard::Head(Bytes::new(alloc)),
+            heard: Heard::Head(no_head(alloc)),
         }
     }
 
@@ -45,7 +45,7 @@ impl Request {
         ensures { (seen : List ℕ) → HasHeard self.old seen → IfOk result (λ asked. AskedGives asked self.new (seen ++ bytes.now)) }
     {
         let alloc = self.alloc;
-        let heard = mem::replace(&mut self.heard, Heard::Head(Bytes::new(alloc)));
+        let heard = mem::replace(&mut self.heard, Heard::Head(no_head(alloc)));
         match hear(alloc, heard, bytes)? {
             Hearing::Wants(heard) => {
                 self.heard = heard;

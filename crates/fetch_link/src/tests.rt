@@ -78,6 +78,43 @@ fn a_response_comes_to_the_same_in_all_pieces(rt: HostRuntime) -> Result<(), Fai
     Ok(())
 }
 
+/// A chunk with this data.
+fn append_chunk(alloc: Global, data: &str, message: &mut Text) -> Result<(), Fail> {
+    let size = data.len();
+    let line = format!(in alloc; "{size:x}\r\n")?;
+    message.push_str(&line)?;
+    message.push_str(data)?;
+    message.push_str("\r\n")?;
+    Ok(())
+}
+
+/// An answer of 200 items with texts of 200 letters, a chunk for each.
+fn page(alloc: Global) -> Result<Text, Fail> {
+    let letters = "a".repeat(alloc, 200)?;
+    let mut message = Text::from_str(
+        alloc,
+        "HTTP/1.1 200 OK\r\nTransfer-Encoding: chunked\r\n\r\n",
+    )?;
+    append_chunk(alloc, "{\"data\":{\"todos\":[null", &mut message)?;
+    for id in 1..=200 {
+        let todo = format!(in alloc; ",{{\"id\":\"{id}\",\"text\":\"{letters}\",\"done\":false}}")?;
+        append_chunk(alloc, &todo, &mut message)?;
+    }
+    append_chunk(alloc, "]}}", &mut message)?;
+    message.push_str("0\r\n\r\n")?;
+    Ok(message)
+}
+
+#[test]
+fn a_page_comes_in_arrivals(rt: HostRuntime) -> Result<(), Fail> {
+    let message = page(rt.alloc())?;
+    for size in [1, 7, 1000, 1_000_000] {
+        let outcome = outcome_of_pieces(rt.alloc(), message.as_bytes(), size)?;
+        assert_eq!(rt; told(&outcome), "body", "in arrivals of {size}");
+    }
+    Ok(())
+}
+
 /// What a request comes to that comes in pieces of this size.
 fn asked_in_pieces(alloc: Global, message: &[u8], size: usize) -> Result<Asked, Fail> {
     let mut request = Request::start(alloc);
@@ -147,15 +184,15 @@ fn a_request_comes_to_the_same_in_all_pieces(rt: HostRuntime) -> Result<(), Fail
 
 #[test]
 fn messages_are_written_as_they_are_sent(rt: HostRuntime) -> Result<(), Fail> {
-    let document = Text::from_str(rt.alloc(), "{me{id}}")?;
+    let document = Text::from_str(rt.alloc(), "{me{__typename id}}")?;
     let variables = Text::from_str(rt.alloc(), "{}")?;
     let request = request_text(rt.alloc(), 4000, &document, None, &variables)?;
     let sent =
-        "POST /graphql HTTP/1.1\r\nHost: 127.0.0.1:4000\r\nContent-Type: application/json\r\nAccept: application/json\r\nContent-Length: 56\r\nConnection: close\r\n\r\n{\"query\":\"{me{id}}\",\"operationName\":null,\"variables\":{}}";
+        "POST /graphql HTTP/1.1\r\nHost: 127.0.0.1:4000\r\nContent-Type: application/json\r\nAccept: application/json\r\nContent-Length: 67\r\nConnection: close\r\n\r\n{\"query\":\"{me{__typename id}}\",\"operationName\":null,\"variables\":{}}";
     assert_eq!(rt; request.as_slice(), sent.as_bytes());
-    let reply = reply_text(rt.alloc(), 200, b"{}")?;
+    let reply = reply_text(rt.alloc(), 200, b"{\"data\":{\"me\":{\"id\":\"7\"}}}")?;
     let told =
-        "HTTP/1.1 200 OK\r\nContent-Type: application/json\r\nContent-Length: 2\r\nConnection: close\r\n\r\n{}";
+        "HTTP/1.1 200 OK\r\nContent-Type: application/json\r\nContent-Length: 26\r\nConnection: close\r\n\r\n{\"data\":{\"me\":{\"id\":\"7\"}}}";
     assert_eq!(rt; reply.as_slice(), told.as_bytes());
     Ok(())
 }
