@@ -1,15 +1,16 @@
 ghost use Rattle.std.specs.Prelude.{◌≡◌, cond, IfOk};
 ghost use Rattle.std.specs.Option.{option_copied};
-ghost use Rattle.std.specs.List.{find};
-ghost use Rattle.check_model.specs.Executables.{fragment_named, as_fragment, defines};
+ghost use Rattle.check_model.specs.Executables.{fragment_named};
 ghost use Rattle.check_model.specs.FieldTypes.{field_arguments, arguments_on, selected_type, selected_on};
 ghost use Rattle.check_model.specs.Directives.{is_conditional, directive_arguments};
 ghost use Rattle.check_model.specs.Sites.{spread_parent};
+ghost use Rattle.fragment_rules.specs.Indexes.{Indexes};
 ghost use Rattle.site_walk.specs.Scopes.{scope_of};
 
 use crate::built_in::BuiltIn;
 use crate::types::{composite_named, is_typename};
-use gql_model::{Definition, Document, Fragment, TypeRef};
+use fragment_rules::FragmentIndex;
+use gql_model::{Document, Fragment, TypeRef};
 use schema_model::{InputValue, Schema, Table, TypeId};
 use std::alloc::Global;
 use text_types::{Memory, Text};
@@ -20,6 +21,8 @@ pub struct Scope<'a> {
     pub schema: &'a Schema,
     pub document: &'a Document,
     built_in: BuiltIn,
+    fragments: FragmentIndex,
+    ghost indexed: { Indexes fragments document.now.definitions },
 }
 
 impl<'a> Scope<'a> {
@@ -34,6 +37,7 @@ impl<'a> Scope<'a> {
             schema,
             document,
             built_in: BuiltIn::new(alloc)?,
+            fragments: FragmentIndex::of(alloc, document)?,
         })
     }
 
@@ -41,10 +45,7 @@ impl<'a> Scope<'a> {
     pub fn fragment(&self, name: &Text) -> Option<&'a Fragment>
         ensures { option_copied result ≡ fragment_named self.now.document.now name.now }
     {
-        match defining(self.document.definitions.as_slice(), name) {
-            Some(definition) => as_fragment(definition),
-            None => None,
-        }
+        self.fragments.fragment(self.document, name)
     }
 
     /// The type of the fragment that a spread of a name spreads.
@@ -107,32 +108,6 @@ impl<'a> Scope<'a> {
         } else {
             self.schema.field_type(parent, name)
         }
-    }
-}
-
-fn defining<'a>(definitions: &'a [Definition], name: &Text) -> Option<&'a Definition>
-    ensures { option_copied result ≡ find (defines name.now) definitions.now }
-{
-    definitions
-        .iter()
-        .find(|definition| defines(name, definition))
-}
-
-fn defines(name: &Text, definition: &Definition) -> bool
-    ensures { result ≡ defines name.now definition.now }
-{
-    match definition {
-        Definition::Fragment(fragment) => *name == fragment.name.text,
-        _ => false,
-    }
-}
-
-fn as_fragment(definition: &Definition) -> Option<&Fragment>
-    ensures { option_copied result ≡ as_fragment definition.now }
-{
-    match definition {
-        Definition::Fragment(fragment) => Some(fragment),
-        _ => None,
     }
 }
 
