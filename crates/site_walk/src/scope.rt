@@ -5,7 +5,6 @@ ghost use Rattle.check_model.specs.FieldTypes.{field_arguments, arguments_on, se
 ghost use Rattle.check_model.specs.Directives.{is_conditional, directive_arguments};
 ghost use Rattle.check_model.specs.Sites.{spread_parent};
 ghost use Rattle.fragment_rules.specs.Indexes.{Indexes};
-ghost use Rattle.site_walk.specs.Scopes.{scope_of};
 
 use crate::built_in::BuiltIn;
 use crate::types::{composite_named, is_typename};
@@ -31,7 +30,8 @@ impl<'a> Scope<'a> {
         schema: &'a Schema,
         document: &'a Document,
     ) -> Result<Scope<'a>, Memory>
-        ensures { IfOk result (λ scope. scope_of scope ≡ (schema.now, document.now)) }
+        ensures schema_is { IfOk result (λ scope. scope.schema.now ≡ schema.now) }
+        ensures document_is { IfOk result (λ scope. scope.document.now ≡ document.now) }
     {
         Ok(Scope {
             schema,
