@@ -99,9 +99,7 @@ impl<'a> SiteTest for MisplacedDirective<'a> {
 fn some_misplaced(schema: &Schema, location: Location, directives: &[Directive]) -> bool
     ensures { result ≡ list_any (λ d. not (may_stand schema.now location d.name.text)) directives.now }
 {
-    directives
-        .iter()
-        .any(|directive| !may_stand(schema, location, &directive.name.text))
+    directives.iter().any(|directive| !may_stand(schema, location, &directive.name.text))
 }
 
 fn may_stand(schema: &Schema, location: Location, name: &Text) -> bool
