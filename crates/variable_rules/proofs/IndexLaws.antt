@@ -8,7 +8,7 @@ use Rattle.std.specs.Cmp.{IsEquivalence}
 use Rattle.std.specs.Cmp.Lexicographic.{nat_list_eq_equiv}
 use Rattle.std.proofs.lemmas.Map.Text.{is_eq-slice_cmp}
 use Rattle.text_types.specs.Texts.{text_cmp}
-use Rattle.check_model.proofs.ListLaws.{position_push, position_congr, or_none}
+use Rattle.check_model.proofs.ListLaws.{position_push, position_congr, or_none, find_place}
 
 some_or : (o p : Option ℕ) → is_some o ≡ true → option_or o p ≡ o
 some_or None p is = absurd (cc)
@@ -50,3 +50,10 @@ pub placed_by : {X : Type 0} (name : X → List ℕ) (q : List ℕ) (i : ℕ) (x
     → position_from (bytes_eq q) i (map name xs) ≡ position_from (λ x. bytes_eq q (name x)) i xs
 placed_by name q i [] = refl
 placed_by name q i (x ∷ xs) = ap (cond (bytes_eq q (name x)) (Some i)) (placed_by name q (i + 1) xs)
+
+-- what stands at the place of a name is the first of that name
+pub found_by_place : {X : Type 0} (name : X → List ℕ) (q : List ℕ) (xs : List X) (o : Option ℕ)
+    → o ≡ position_from (bytes_eq q) 0 (map name xs) → option_and_then (slice_get xs) o ≡ find (λ x. bytes_eq q (name x)) xs
+found_by_place name q xs o is =
+    ap (option_and_then (slice_get xs)) (is ∙ placed_by name q 0 xs)
+    ∙ sym (find_place (λ x. bytes_eq q (name x)) xs)

@@ -18,7 +18,7 @@ pub put_in : (ks ls : List (List ℕ)) (name : List ℕ)
     → set.from_list {R = text_cmp} ls ≡ set.insert (set.from_list ks) name
 put_in ks ls name is =
     set.same_set nat_list_cmp_total (set.slice_cmp-IsAntisymmetric set.nat_cmp-IsAntisymmetric) _ _ (λ q.
-        set.contains-from_list nat_list_cmp_total ls q ∙ is q ∙ either _ _
+        set.contains-from_list nat_list_cmp_total ls q ∙ is q ∙ either (is_at (text_cmp name) q) (list_any (is_at (text_cmp q)) ks)
         ∙ ap (λ b. b || list_any (is_at (text_cmp q)) ks) ((eq_by_cmp_equiv nat_list_cmp_total).symm name q)
         ∙ sym (set.contains-insert nat_list_cmp_total (set.from_list ks) name q
             ∙ ap (λ b. eq_by_cmp text_cmp q name || b) (set.contains-from_list nat_list_cmp_total ks q)))

@@ -7,11 +7,11 @@
 
 mod declarations;
 mod declared;
-
+mod faults;
 mod goes;
 mod names;
 mod uses;
 mod wanted;
 
 pub use declarations::{breaks_variable_uniqueness, breaks_variables_are_input_types};
-
+pub use faults::{UseFaults, use_faults};
