@@ -20,7 +20,10 @@ fn sets_nest_at_most_64_deep(rt: HostRuntime) -> Result<(), Fail> {
     let accepted = chain(alloc, 62)?;
     assert_eq!(rt; early(alloc, accepted.as_bytes(), "")?, None);
     let refused = chain(alloc, 63)?;
-    assert_eq!(rt; early(alloc, refused.as_bytes(), "")?, Some(Refusal::TooLarge));
+    assert_eq!(rt;
+        early(alloc, refused.as_bytes(), "")?,
+        Some(Refusal::TooLarge)
+    );
     Ok(())
 }
 
@@ -41,6 +44,9 @@ fn definitions_have_at_most_65536_fields(rt: HostRuntime) -> Result<(), Fail> {
     let accepted = doubling(alloc, 16)?;
     assert_eq!(rt; early(alloc, accepted.as_bytes(), "")?, None);
     let refused = doubling(alloc, 40)?;
-    assert_eq!(rt; early(alloc, refused.as_bytes(), "")?, Some(Refusal::TooLarge));
+    assert_eq!(rt;
+        early(alloc, refused.as_bytes(), "")?,
+        Some(Refusal::TooLarge)
+    );
     Ok(())
 }

@@ -38,11 +38,13 @@ pub(crate) fn schema(alloc: Global, text: &[u8]) -> Result<Schema, Fail> {
 fn forms(alloc: Global, document: Document) -> Result<Vec<TypeSystemForm>, Memory> {
     let mut forms = Vec::new(alloc);
     'definitions: for definition in document.definitions.into_vec() {
-        if let Definition::TypeSystem(TypeSystem {
-            place: _,
-            description: _,
-            form,
-        }) = definition
+        if let Definition::TypeSystem(
+            TypeSystem {
+                place: _,
+                description: _,
+                form,
+            },
+        ) = definition
         {
             forms.push(form)?;
         }

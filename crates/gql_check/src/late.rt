@@ -59,11 +59,7 @@ fn in_variables(
     Ok(None)
 }
 
-fn in_values(
-    alloc: Global,
-    scope: &Scope<'_>,
-    faults: UseFaults,
-) -> Result<Option<Refusal>, Memory>
+fn in_values(alloc: Global, scope: &Scope<'_>, faults: UseFaults) -> Result<Option<Refusal>, Memory>
     requires { faults.disallowed ≡ breaks_variable_usages_allowed scope.now.schema.now scope.now.document.now }
     ensures { IfOk result (λ r. r ≡ first_ground (value_grounds scope.now.schema.now scope.now.document.now)) }
 {
