@@ -10,3 +10,5 @@ mod places;
 mod sizes;
 #[cfg(test)]
 mod support;
+#[cfg(test)]
+mod values;

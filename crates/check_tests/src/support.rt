@@ -1,5 +1,5 @@
 use check_model::Refusal;
-use gql_check::{early_refusal, place_refusal};
+use gql_check::{early_refusal, place_refusal, value_refusal};
 use gql_documents::{nesting, parse_document};
 use gql_model::{Definition, Document, TypeSystem, TypeSystemForm};
 use gql_schema::{Schema, judged};
@@ -10,11 +10,16 @@ use text_types::{Memory, Text};
 
 /// The schema of the tables.
 pub(crate) const SCHEMA: &[u8] = b"
-type Query { me: User todo(id: ID!): Todo todos: [Todo!]! node(id: ID! = 1): Node any: Any }
+type Query {
+  me: User todo(id: ID!): Todo todos: [Todo!]! node(id: ID! = 1): Node any: Any
+  find(p: P, j: JSON, n: [[Int]]): User
+}
 type Mutation { setDone(id: ID!, done: Boolean!): Todo }
 interface Node { id: ID! }
 interface Lonely { id: ID! }
 union Any = User | Todo
+scalar JSON
+input P { x: Int y: [Int!] = [1] z: P }
 type User implements Node { id: ID! name: String! nick: String }
 type Todo implements Node { id: ID! text: String! done: Boolean! author: User }
 directive @tag(name: String!) repeatable on FIELD
@@ -66,9 +71,20 @@ pub(crate) fn early(alloc: Global, text: &[u8], name: &str) -> Result<Option<Ref
 pub(crate) fn place_rule(alloc: Global, schema: &Schema, text: &[u8]) -> Result<u8, Fail> {
     let document = document(alloc, text)?;
     let scope = Scope::new(alloc, schema, &document)?;
-    match place_refusal(alloc, &scope)? {
-        Some(Refusal::Invalid { rule }) => Ok(rule),
-        Some(_) => Ok(255),
-        None => Ok(0),
+    Ok(rule_of(place_refusal(alloc, &scope)?))
+}
+
+/// The number of the first rule on variables and values that a document breaks, or 0.
+pub(crate) fn value_rule(alloc: Global, schema: &Schema, text: &[u8]) -> Result<u8, Fail> {
+    let document = document(alloc, text)?;
+    let scope = Scope::new(alloc, schema, &document)?;
+    Ok(rule_of(value_refusal(alloc, &scope)?))
+}
+
+fn rule_of(refusal: Option<Refusal>) -> u8 {
+    match refusal {
+        Some(Refusal::Invalid { rule }) => rule,
+        Some(_) => 255,
+        None => 0,
     }
 }
