@@ -1,0 +1,5 @@
+mod FaultLaws
+mod IndexLaws
+mod MarkLaws
+mod NameLaws
+mod UseLaws

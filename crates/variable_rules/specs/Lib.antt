@@ -1,0 +1,4 @@
+pub mod Faults
+pub mod Indexes
+pub mod Places
+pub mod Uses
