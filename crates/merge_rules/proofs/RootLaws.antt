@@ -1,10 +1,10 @@
 -- What a walk over root fields tells.
-use Rattle.std.proofs.Common.{◌≡◌, ℕ, List, [], ◌∷◌, refl, ap, sym, ◌∙◌, Bool, true, false, ◌&&◌, bytes_eq}
-use Rattle.std.specs.Prelude.{Some, None, not}
+use Rattle.std.proofs.Common.{◌≡◌, [], ◌∷◌, refl, ap, ◌∙◌, Bool, true, false, ◌&&◌, bytes_eq}
+use Rattle.std.specs.Prelude.{Some, not}
 use Rattle.std.specs.List.{fold, list_all}
 use Rattle.check_model.specs.FieldTypes.{is_typename}
 use Rattle.check_model.specs.RootFields.{RootField, RootFields, is_single}
-use Rattle.merge_rules.specs.Roots.{Keys, noted, start, is_one}
+use Rattle.merge_rules.specs.Roots.{noted, start, is_one}
 
 and_assoc : (a b c : Bool) → ((a && b) && c) ≡ (a && (b && c))
 and_assoc true b c = refl

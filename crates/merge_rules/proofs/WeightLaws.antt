@@ -1,6 +1,6 @@
 -- A walk that follows spreads goes down: each spread takes one from what is left, and sets are no deeper than the weight.
-use Rattle.std.proofs.Common.{◌≡◌, ℕ, zero, suc, ◌+◌, ◌*◌, ◌-◌, ◌<◌, ◌≤◌, max, List, [], ◌∷◌, refl, subst, arith, Bool, true, false, cond, bytes_eq}
-use Rattle.std.specs.Prelude.{Some, None}
+use Rattle.std.proofs.Common.{◌≡◌, ℕ, ◌+◌, ◌*◌, ◌-◌, ◌<◌, ◌≤◌, max, List, [], ◌∷◌, subst, arith, Bool, true, false, cond, bytes_eq}
+use Rattle.std.specs.Prelude.{Some}
 use Rattle.std.specs.List.{find}
 use Rattle.std.specs.Option.{option_and_then}
 use Rattle.gql_model.specs.declared.executable.Fragment.{Fragment}

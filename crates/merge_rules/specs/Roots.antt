@@ -1,5 +1,5 @@
 -- The first root field of a list, and whether all have its response key.
-use Rattle.std.specs.Prelude.{ℕ, Bool, true, false, ◌&&◌, not, List, Option, Some, None, bytes_eq}
+use Rattle.std.specs.Prelude.{Bool, true, false, ◌&&◌, not, Option, Some, None, bytes_eq}
 use Rattle.std.specs.Option.{option_map, option_map_or}
 use Rattle.gql_model.specs.declared.selection.Field.{Field}
 use Rattle.gql_model.specs.declared.selection.InlineFragment.{InlineFragment}

@@ -3,7 +3,7 @@ use Rattle.std.specs.Prelude.{ℕ, ◌+◌, max, List, [], ◌∷◌}
 use Rattle.gql_model.specs.declared.document.Definition.{Definition}
 use Rattle.gql_model.specs.declared.document.Definition.TheVariants as definition
 use Rattle.gql_model.specs.declared.document.Document.{Document}
-use Rattle.gql_model.specs.declared.selection.SelectionSet.{SelectionSet, size-SelectionSet}
+use Rattle.gql_model.specs.declared.selection.SelectionSet.{size-SelectionSet}
 
 -- the depth of a fragment's set
 abbrev pub fragment_depth : Definition → ℕ

@@ -11,8 +11,7 @@ ghost use Rattle.gql_model.specs.declared.selection.Field.{out-Field};
 
 use crate::keys::response_key;
 use gql_model::{
-    Definition, Field, InlineFragment, Name, Operation, OperationKind, Selection,
-    SelectionSet,
+    Definition, Field, InlineFragment, Name, Operation, OperationKind, Selection, SelectionSet,
 };
 use schema_model::{Schema, TypeId};
 use site_walk::{Scope, is_typename};
@@ -68,7 +67,13 @@ fn is_single<'a>(scope: &Scope<'a>, object: TypeId, operation: &'a Operation) ->
     ensures { result ≡ is_single (root_fields scope.now.schema.now scope.now.document.now object operation.now) }
 {
     let fuel = scope.document.definitions.len();
-    let keys = visit_set(scope, object, fuel, &operation.selection_set, RootKeys::new());
+    let keys = visit_set(
+        scope,
+        object,
+        fuel,
+        &operation.selection_set,
+        RootKeys::new(),
+    );
     keys.is_single()
 }
 
@@ -176,7 +181,10 @@ fn visit_selection<'a>(
 fn visit_field<'a>(field: &'a Field, keys: RootKeys<'a>) -> RootKeys<'a>
     ensures { let field_parts = out-Field field.now in keys_of result ≡ fold noted (keys_of keys.entry) ((response_key field_parts.alias field_parts.name.text, field_parts.name.text) ∷ []) }
 {
-    keys.with(response_key(&field.alias, &field.name.text), &field.name.text)
+    keys.with(
+        response_key(&field.alias, &field.name.text),
+        &field.name.text,
+    )
 }
 
 #[cycle(roots)]

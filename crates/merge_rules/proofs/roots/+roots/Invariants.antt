@@ -1,4 +1,4 @@
-use Rattle.std.proofs.Common.{◌≡◌, ◌+◌, ◌*◌, ℕ, List, [], map, drop}
+use Rattle.std.proofs.Common.{◌≡◌, ◌+◌, ◌*◌, [], map, drop}
 use Rattle.std.specs.List.{fold, flat_map}
 use Rattle.check_model.specs.Followed.{followed_within}
 use Rattle.check_model.specs.RootFields.{RootFields, fragment_root, root_fields_of_set}
@@ -21,8 +21,8 @@ decreases-visit_fragment l = l.fuel * weight l.scope.now.document.now
 abbrev pub invariant-visit_set-selections : goal.invariant-visit_set-selections
 invariant-visit_set-selections l =
     fold noted (keys_of l.initial.keys)
-        (root_fields_of_set l.scope.schema.now l.object (followed_within l.fuel [] (fragment_root l.scope.schema.now l.object) l.scope.document.now) l.set)
+    (root_fields_of_set l.scope.schema.now l.object (followed_within l.fuel [] (fragment_root l.scope.schema.now l.object) l.scope.document.now) l.set)
     ≡ fold noted (keys_of l.keys)
-        (flat_map (λ (fs : RootFields). fs)
-            (map (root_fields_of_selection l.scope.schema.now l.object (followed_within l.fuel [] (fragment_root l.scope.schema.now l.object) l.scope.document.now))
-                (drop l.selection-index l.selection-items)))
+    (flat_map (λ (fs : RootFields). fs)
+    (map (root_fields_of_selection l.scope.schema.now l.object (followed_within l.fuel [] (fragment_root l.scope.schema.now l.object) l.scope.document.now))
+    (drop l.selection-index l.selection-items)))

@@ -11,7 +11,7 @@ returns c =
     c.is_single.ensures
     ∙ ap is_one c.visit_set-keys.ensures
     ∙ ap (λ (k : Keys). is_one (fold noted k (root_fields_of_set c.args.scope.now.schema.now c.args.object
-        (followed_within c.len-fuel.result [] (fragment_root c.args.scope.now.schema.now c.args.object) c.args.scope.now.document.now) c.args.operation.now.selection_set))) c.new.ensures
+    (followed_within c.len-fuel.result [] (fragment_root c.args.scope.now.schema.now c.args.object) c.args.scope.now.document.now) c.args.operation.now.selection_set))) c.new.ensures
     ∙ ap (λ n. is_one (fold noted start (root_fields_of_set c.args.scope.now.schema.now c.args.object
-        (followed_within n [] (fragment_root c.args.scope.now.schema.now c.args.object) c.args.scope.now.document.now) c.args.operation.now.selection_set))) c.len-fuel.ensures
+    (followed_within n [] (fragment_root c.args.scope.now.schema.now c.args.object) c.args.scope.now.document.now) c.args.operation.now.selection_set))) c.len-fuel.ensures
     ∙ one_is_single (root_fields c.args.scope.now.schema.now c.args.scope.now.document.now c.args.object c.args.operation.now)
