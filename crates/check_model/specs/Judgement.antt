@@ -32,14 +32,19 @@ request_grounds document name =
     ∷ (Introspection, is_introspection document)
     ∷ []
 
--- the rules that are said without a schema, up to those that let spreads be followed, and the size
-abbrev pub document_grounds : Document → List Ground
-document_grounds document =
+-- the rules on definitions
+abbrev pub definition_grounds : Document → List Ground
+definition_grounds document =
     (Invalid 1, breaks_executable_definitions document)
     ∷ (Invalid 2, breaks_operation_name_uniqueness document)
     ∷ (Invalid 3, breaks_lone_anonymous_operation document)
     ∷ (Invalid 4, breaks_fragment_name_uniqueness document)
-    ∷ (Invalid 5, breaks_spread_target_defined document)
+    ∷ []
+
+-- the rules on spreads; that a document is too large is asked as soon as its spreads can be followed
+abbrev pub spread_grounds : Document → List Ground
+spread_grounds document =
+    (Invalid 5, breaks_spread_target_defined document)
     ∷ (Invalid 6, breaks_fragment_cycles document)
     ∷ (TooLarge, is_too_large document)
     ∷ (Invalid 7, breaks_fragments_used document)
@@ -89,11 +94,21 @@ merge_grounds schema document =
     ∷ (Invalid 27, breaks_single_root_field schema document)
     ∷ []
 
+-- what is asked of a document by itself
+abbrev pub early_grounds : Document → Option (List ℕ) → List Ground
+early_grounds document name = request_grounds document name ++ (definition_grounds document ++ spread_grounds document)
+
+-- the rules on what stands at one place
+abbrev pub place_grounds : Schema → Document → List Ground
+place_grounds schema document = selection_grounds schema document ++ (directive_grounds schema document ++ argument_grounds schema document)
+
+-- the rules on variables, values and fields that are merged
+abbrev pub late_grounds : Schema → Document → List Ground
+late_grounds schema document = variable_grounds schema document ++ (value_grounds schema document ++ merge_grounds schema document)
+
 -- all grounds, in the order in which they are tried
 abbrev pub grounds : Schema → Document → Option (List ℕ) → List Ground
-grounds schema document name =
-    request_grounds document name ++ (document_grounds document ++ (selection_grounds schema document ++ (directive_grounds schema document
-    ++ (argument_grounds schema document ++ (variable_grounds schema document ++ (value_grounds schema document ++ merge_grounds schema document))))))
+grounds schema document name = early_grounds document name ++ (place_grounds schema document ++ late_grounds schema document)
 
 -- why a document and the choice of its operation are refused, or nothing
 abbrev pub refusal_of : Schema → Document → Option (List ℕ) → Option Refusal

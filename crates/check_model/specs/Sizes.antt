@@ -1,7 +1,7 @@
 -- How deep selection sets nest and how many fields definitions have, with all spreads followed; the limits are this project's own.
-use Rattle.std.specs.Prelude.{ℕ, ◌+◌, nat_lt, max, Bool, ◌||◌}
+use Rattle.std.specs.Prelude.{ℕ, ◌+◌, nat_lt, max, Bool, ◌||◌, Option, Some, None, cond, is_none}
 use Rattle.std.specs.List.{fold}
-use Rattle.std.specs.Option.{unwrap_or}
+use Rattle.std.specs.Option.{unwrap_or, option_and_then}
 use Rattle.gql_model.specs.declared.selection.Field.{Field}
 use Rattle.gql_model.specs.declared.selection.InlineFragment.{InlineFragment}
 use Rattle.gql_model.specs.declared.selection.Selection.{Selection}
@@ -11,75 +11,76 @@ use Rattle.gql_model.specs.declared.selection.Selection.TheFolds.{fold-Selection
 use Rattle.gql_model.specs.declared.executable.Operation.{Operation}
 use Rattle.gql_model.specs.declared.executable.Fragment.{Fragment}
 use Rattle.gql_model.specs.declared.document.Document.{Document}
+use Rattle.check_model.specs.declared.size.Size.{Size}
 use Rattle.check_model.specs.Executables.{some_operation, some_fragment}
 use Rattle.check_model.specs.Followed.{Follow, followed}
 
--- how deep sets nest, and how many fields there are
-pub record Size : Type 0 where
-  pub depth : ℕ
-  pub fields : ℕ
+-- a size, or nothing where a limit is passed
+abbrev pub Bounded : Type 0
+Bounded = Option Size
 
-abbrev pub no_size : Size
-no_size = record { depth = 0; fields = 0 }
+-- sets nested at most 64 deep, and at most 65,536 fields; what is larger stays so with anything beside it
+abbrev pub bounded : ℕ → ℕ → Bounded
+bounded depth fields = cond (nat_lt 64 depth || nat_lt 65536 fields) None (Some (record { depth = depth; fields = fields }))
+
+abbrev pub no_size : Bounded
+no_size = Some (record { depth = 0; fields = 0 })
 
 -- side by side
-abbrev pub beside : Size → Size → Size
-beside a b = record { depth = max a.depth b.depth; fields = a.fields + b.fields }
+abbrev pub both : Size → Size → Bounded
+both a b = bounded (max a.depth b.depth) (a.fields + b.fields)
+
+abbrev pub beside : Bounded → Bounded → Bounded
+beside a b = option_and_then (λ x. option_and_then (both x) b) a
 
 -- a followed spread opens the set of its fragment, as an inline fragment opens its own
-abbrev pub selection_size : Follow Size → Selection-F Size Size Size Size → Size
+abbrev pub selection_size : Follow Bounded → Selection-F Bounded Bounded Bounded Bounded → Bounded
 selection_size follow (Selection-F.Field field) = field
 selection_size follow (Selection-F.Spread spread) = follow spread.name.text
 selection_size follow (Selection-F.Inline fragment) = fragment
 
 -- a field is one more than what its set has
-abbrev pub with_field : Size → Size
-with_field below = record { depth = below.depth; fields = below.fields + 1 }
+abbrev pub one_more : Size → Bounded
+one_more below = bounded below.depth (below.fields + 1)
 
-abbrev pub field_size : Field-F Size Size Size Size → Size
-field_size field = with_field (unwrap_or field.selection_set no_size)
+abbrev pub field_size : Field-F Bounded Bounded Bounded Bounded → Bounded
+field_size field = option_and_then one_more (unwrap_or field.selection_set no_size)
 
-abbrev pub inline_size : InlineFragment-F Size Size Size Size → Size
+abbrev pub inline_size : InlineFragment-F Bounded Bounded Bounded Bounded → Bounded
 inline_size fragment = fragment.selection_set
 
 -- a set is one level more than what stands in it
-abbrev pub in_set : Size → Size
-in_set inside = record { depth = inside.depth + 1; fields = inside.fields }
+abbrev pub one_deeper : Size → Bounded
+one_deeper inside = bounded (inside.depth + 1) inside.fields
 
-abbrev pub set_size : SelectionSet-F Size Size Size Size → Size
-set_size set = in_set (fold beside no_size set.selections)
+abbrev pub set_size : SelectionSet-F Bounded Bounded Bounded Bounded → Bounded
+set_size set = option_and_then one_deeper (fold beside no_size set.selections)
 
-abbrev pub size_of_set : Follow Size → SelectionSet → Size
-size_of_set follow = fold-SelectionSet Size Size Size Size (selection_size follow) field_size inline_size set_size
+abbrev pub size_of_set : Follow Bounded → SelectionSet → Bounded
+size_of_set follow = fold-SelectionSet Bounded Bounded Bounded Bounded (selection_size follow) field_size inline_size set_size
 
-abbrev pub size_of_selection : Follow Size → Selection → Size
-size_of_selection follow = fold-Selection Size Size Size Size (selection_size follow) field_size inline_size set_size
+abbrev pub size_of_selection : Follow Bounded → Selection → Bounded
+size_of_selection follow = fold-Selection Bounded Bounded Bounded Bounded (selection_size follow) field_size inline_size set_size
 
-abbrev pub size_of_field : Follow Size → Field → Size
-size_of_field follow = fold-Field Size Size Size Size (selection_size follow) field_size inline_size set_size
+abbrev pub size_of_field : Follow Bounded → Field → Bounded
+size_of_field follow = fold-Field Bounded Bounded Bounded Bounded (selection_size follow) field_size inline_size set_size
 
-abbrev pub size_of_inline : Follow Size → InlineFragment → Size
-size_of_inline follow = fold-InlineFragment Size Size Size Size (selection_size follow) field_size inline_size set_size
+abbrev pub size_of_inline : Follow Bounded → InlineFragment → Bounded
+size_of_inline follow = fold-InlineFragment Bounded Bounded Bounded Bounded (selection_size follow) field_size inline_size set_size
 
-abbrev pub size_in_fragment : Follow Size → Fragment → Size
+abbrev pub size_in_fragment : Follow Bounded → Fragment → Bounded
 size_in_fragment follow fragment = size_of_set follow fragment.selection_set
 
 -- the size of the fragment of a name
-abbrev pub fragment_size : Document → Follow Size
+abbrev pub fragment_size : Document → Follow Bounded
 fragment_size document = followed no_size size_in_fragment document
 
-abbrev pub operation_size : Document → Operation → Size
-operation_size document operation = size_of_set (fragment_size document) operation.selection_set
+-- an operation or a fragment, reached or not, passes a limit
+abbrev pub is_large_operation : Document → Operation → Bool
+is_large_operation document operation = is_none (size_of_set (fragment_size document) operation.selection_set)
 
-abbrev pub size_of_fragment : Document → Fragment → Size
-size_of_fragment document fragment = size_in_fragment (fragment_size document) fragment
+abbrev pub is_large_fragment : Document → Fragment → Bool
+is_large_fragment document fragment = is_none (size_in_fragment (fragment_size document) fragment)
 
--- sets nested deeper than 64, or more than 65,536 fields
-abbrev pub exceeds : Size → Bool
-exceeds size = nat_lt 64 size.depth || nat_lt 65536 size.fields
-
--- whether an operation or a fragment, reached or not, is too large
 abbrev pub is_too_large : Document → Bool
-is_too_large document =
-    some_operation (λ o. exceeds (operation_size document o)) document
-    || some_fragment (λ f. exceeds (size_of_fragment document f)) document
+is_too_large document = some_operation (is_large_operation document) document || some_fragment (is_large_fragment document) document

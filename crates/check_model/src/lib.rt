@@ -8,6 +8,8 @@
 
 mod location;
 mod refusal;
+mod size;
 
 pub use location::Location;
 pub use refusal::Refusal;
+pub use size::Size;

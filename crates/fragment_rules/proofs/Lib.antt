@@ -1,2 +1,3 @@
 mod IndexLaws
+mod SizeLaws
 mod ChoiceLaws

@@ -1,3 +1,4 @@
 pub mod Choices
 pub mod Indexes
 pub mod Names
+pub mod Tables

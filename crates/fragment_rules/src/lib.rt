@@ -11,6 +11,7 @@ mod introspection;
 mod names;
 mod operations;
 mod reached;
+mod sizes;
 mod spreads;
 
 pub use definitions::{breaks_executable_definitions, breaks_lone_anonymous_operation};
@@ -19,4 +20,5 @@ pub use introspection::is_introspection;
 pub use names::{breaks_fragment_name_uniqueness, breaks_operation_name_uniqueness};
 pub use operations::chosen;
 pub use reached::{breaks_fragment_cycles, breaks_fragments_used};
+pub use sizes::is_too_large;
 pub use spreads::{breaks_spread_target_defined, spread_graph};
