@@ -1,0 +1,10 @@
+pub mod Values
+pub mod Scalars
+pub mod Literals
+pub mod Inputs
+pub mod Defaults
+pub mod Offers
+pub mod Variables
+pub mod Arguments
+pub mod Conditions
+pub mod Collection
