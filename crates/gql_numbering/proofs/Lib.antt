@@ -1,0 +1,7 @@
+mod Induction
+mod BeginningLaws
+mod NumberedLaws
+mod Growth
+mod Places
+mod Sound
+pub mod DocumentLaws
