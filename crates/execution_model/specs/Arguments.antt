@@ -1,14 +1,13 @@
 -- The values of the arguments of a field or a directive (GraphQL October 2021, 6.4.1, CoerceArgumentValues).
-use Rattle.std.specs.Prelude.{ℕ, Bool, List, [], ◌∷◌, ◌++◌, Option, Some, None, cond, bytes_eq}
+use Rattle.std.specs.Prelude.{ℕ, List, [], ◌∷◌, Some, cond, bytes_eq}
 use Rattle.std.specs.List.{find, flat_map}
 use Rattle.std.specs.Option.{option_map_or}
 use Rattle.gql_model.specs.declared.selection.Argument.{Argument}
-use Rattle.gql_value.specs.declared.value.Value.{Value}
 use Rattle.schema_model.specs.declared.schema.Schema.{Schema}
 use Rattle.schema_model.specs.declared.schema.InputValue.{InputValue}
 use Rattle.schema_rules.specs.TypeRefs.{is_non_null}
 use Rattle.execution_model.specs.Values.{Pairs, null_value}
-use Rattle.execution_model.specs.Inputs.{Given, Absent, Refused, Is, or_default}
+use Rattle.execution_model.specs.Inputs.{Given, Absent, Is, or_default}
 use Rattle.execution_model.specs.Defaults.{filled}
 use Rattle.execution_model.specs.Literals.{literal_meaning}
 
@@ -16,7 +15,7 @@ use Rattle.execution_model.specs.Literals.{literal_meaning}
 abbrev pub argument_given : Schema → Pairs → List Argument → List ℕ × InputValue → Given
 argument_given schema variables arguments defined =
     option_map_or (λ a. literal_meaning (filled schema) schema variables a.value (Some defined.1.input_type.type_ref))
-        (find (λ a. bytes_eq defined.0 a.name.text) arguments) Absent
+    (find (λ a. bytes_eq defined.0 a.name.text) arguments) Absent
 
 -- Where a Non-Null argument has neither value nor default it counts as null; this project's own rule, which is met
 -- only where a variable stands for it whose value is null or absent.

@@ -1,6 +1,6 @@
 -- The fields that selection sets collect for an object type (GraphQL October 2021, 6.3.2, CollectFields). Sets and fields are named by their numbers.
-use Rattle.std.specs.Prelude.{ℕ, zero, suc, Bool, true, false, not, ◌&&◌, List, [], ◌∷◌, ◌++◌, map, Option, Some, None, cond, bytes_eq, is_some}
-use Rattle.std.specs.List.{fold, list_any, zip, position_from, slice_get}
+use Rattle.std.specs.Prelude.{ℕ, zero, suc, Bool, false, List, [], ◌∷◌, ◌++◌, map, Option, Some, None, cond, codes, bytes_eq, slice_index_or}
+use Rattle.std.specs.List.{fold, list_any, zip, slice_get}
 use Rattle.std.specs.Option.{unwrap_or, option_map, option_map_or, option_and_then}
 use Rattle.gql_model.specs.declared.name.Name.{Name}
 use Rattle.gql_model.specs.declared.selection.Directive.{Directive}
@@ -8,8 +8,7 @@ use Rattle.gql_model.specs.declared.selection.Selection.{Selection, out-Selectio
 use Rattle.gql_model.specs.declared.selection.SelectionSet.{SelectionSet}
 use Rattle.gql_model.specs.declared.selection.Selection.TheOpen.{Selection-F}
 use Rattle.gql_model.specs.declared.selection.Field.{Field, out-Field}
-use Rattle.gql_model.specs.declared.selection.Spread.{Spread}
-use Rattle.gql_model.specs.declared.selection.InlineFragment.{InlineFragment, out-InlineFragment}
+use Rattle.gql_model.specs.declared.selection.InlineFragment.{InlineFragment}
 use Rattle.gql_model.specs.declared.document.Document.{Document}
 use Rattle.schema_model.specs.declared.schema.Schema.{Schema}
 use Rattle.schema_model.specs.declared.schema.TypeId.{TypeId}
@@ -22,23 +21,27 @@ use Rattle.check_model.specs.Fields.{response_key}
 use Rattle.check_model.specs.RootFields.{applies, applies_inline}
 use Rattle.execution_model.specs.Values.{Pairs}
 use Rattle.execution_model.specs.Conditions.{is_passed_over}
+use Rattle.execution_model.specs.Fronts.{Fronts}
 
 -- the numbers of selection sets whose selections are joined, one set behind another
 abbrev pub SetId : Type 0
 SetId = List ℕ
 
--- the fields of one response key: the number of the first of them, and their own sets, joined
+-- The fields of one response key: the number of the first of them, and their own sets, joined. A field without a
+-- number is the `__typename` that is put at the front of a set when the operation is sent.
 pub record Group : Type 0 where
   pub key : List ℕ
-  pub field : ℕ
+  pub field : Option ℕ
   pub sets : SetId
 
--- a document with its schema, the values of variables, and the object type for which fields are collected
+-- a document with its schema, the values of variables, the object type for which fields are collected, and for each
+-- set whether `__typename` is put at its front; for the client's own selection no set gets it
 pub record Context : Type 0 where
   pub schema : Schema
   pub document : Document
   pub variables : Pairs
   pub object : TypeId
+  pub fronts : Fronts
 
 -- the groups so far, in order of first appearance, and the names of the fragments that were spread
 pub record Collecting : Type 0 where
@@ -63,7 +66,7 @@ own_set mark (Some set) = mark.sets ∷ []
 abbrev pub group_of : Mark → Field → Group
 group_of mark field = record {
   key = response_key (out-Field field).alias (out-Field field).name.text;
-  field = mark.fields;
+  field = Some mark.fields;
   sets = own_set mark (out-Field field).selection_set;
 }
 
@@ -73,6 +76,14 @@ Following = ℕ → Collecting → Collecting
 
 abbrev pub with_field : Mark → Field → Collecting → Collecting
 with_field mark field state = record state { groups = grouped (group_of mark field) state.groups }
+
+-- `__typename`, where it is put in
+abbrev pub typename_group : Group
+typename_group = record { key = codes "__typename"; field = None; sets = [] }
+
+-- what stands at the front of the set of a number
+abbrev pub with_front : Fronts → ℕ → Collecting → Collecting
+with_front fronts set state = cond (slice_index_or fronts set false) (record state { groups = grouped typename_group state.groups }) state
 
 -- the number of the set of the fragment of a name
 abbrev pub fragment_set : Document → List ℕ → Option ℕ
@@ -122,7 +133,7 @@ numbered_selections document set =
 abbrev pub followed_within : ℕ → Context → Following
 followed_within zero context set state = state
 followed_within (suc n) context set state =
-    fold (with_selection (followed_within n context) context) state (numbered_selections context.document set)
+    fold (with_selection (followed_within n context) context) (with_front context.fronts set state) (numbered_selections context.document set)
 
 -- with spreads followed, the sets of a checked document nest no deeper than 64
 abbrev pub followed : Context → Following

@@ -1,5 +1,5 @@
 -- Which selections are passed over (GraphQL October 2021, 3.13.1 and 3.13.2).
-use Rattle.std.specs.Prelude.{ℕ, Bool, true, false, not, ◌&&◌, ◌||◌, List, Option, Some, None, codes, bytes_eq}
+use Rattle.std.specs.Prelude.{Bool, true, false, not, ◌&&◌, ◌||◌, List, codes, bytes_eq}
 use Rattle.std.specs.List.{list_any, find}
 use Rattle.std.specs.Option.{option_map_or}
 use Rattle.gql_model.specs.declared.literal.Literal.{Literal, out-Literal}

@@ -1,9 +1,7 @@
 -- The values of defaults, in which further defaults are filled in (GraphQL October 2021, 3.10, Input Coercion).
 use Rattle.std.specs.Prelude.{ℕ, zero, suc, ◌+◌, List, [], length, Option, Some, None}
 use Rattle.std.specs.List.{flat_map}
-use Rattle.std.specs.Option.{option_map_or, unwrap_or}
-use Rattle.gql_model.specs.declared.literal.Literal.{Literal}
-use Rattle.gql_model.specs.declared.type_ref.TypeRef.{TypeRef}
+use Rattle.std.specs.Option.{unwrap_or}
 use Rattle.gql_value.specs.declared.value.Value.{Value}
 use Rattle.schema_model.specs.declared.schema.Schema.{Schema}
 use Rattle.schema_model.specs.declared.schema.InputValue.{InputValue}

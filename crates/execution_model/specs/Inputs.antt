@@ -1,5 +1,5 @@
 -- Input objects (GraphQL October 2021, 3.10, Input Coercion): members in the order of the type's fields.
-use Rattle.std.specs.Prelude.{ℕ, Bool, List, [], ◌∷◌, Option, Some, None, cond}
+use Rattle.std.specs.Prelude.{ℕ, List, [], ◌∷◌, Option, Some, None, cond}
 use Rattle.std.specs.Option.{option_map, option_map_or, option_and_then}
 use Rattle.gql_model.specs.declared.literal.Literal.{Literal}
 use Rattle.gql_model.specs.declared.type_ref.TypeRef.{TypeRef}
@@ -10,7 +10,7 @@ use Rattle.schema_model.specs.Schemas.{input_fields_in}
 use Rattle.schema_model.specs.Tables.{entry}
 use Rattle.schema_rules.specs.TypeRefs.{is_non_null, named_type}
 use Rattle.schema_defaults.specs.Fits.{takes_any}
-use Rattle.execution_model.specs.Values.{Pairs, null_value, list_value, object_value, all_of}
+use Rattle.execution_model.specs.Values.{Pairs, null_value, list_value, object_value}
 use Rattle.execution_model.specs.Scalars.{Wanted, in_lists}
 
 -- what stands at a place: nothing, something that the place doesn't take, or a value

@@ -7,4 +7,6 @@ pub mod Offers
 pub mod Variables
 pub mod Arguments
 pub mod Conditions
+pub mod Fronts
 pub mod Collection
+pub mod Asked

@@ -1,5 +1,5 @@
 -- What literals become, once variables have values (GraphQL October 2021, 2.9 and 6.4.1). A literal that doesn't fit its type is refused.
-use Rattle.std.specs.Prelude.{ℕ, Bool, List, [], ◌∷◌, Option, Some, None, cond}
+use Rattle.std.specs.Prelude.{ℕ, List, Some, None, cond}
 use Rattle.std.specs.Option.{option_map_or}
 use Rattle.gql_model.specs.declared.literal.Literal.{Literal}
 use Rattle.gql_model.specs.declared.literal.LiteralValue.{LiteralValue}

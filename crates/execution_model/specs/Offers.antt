@@ -1,9 +1,8 @@
 -- What values that a client gives become at a type (GraphQL October 2021, 3.5 to 3.12, Input Coercion).
-use Rattle.std.specs.Prelude.{ℕ, Bool, ◌&&◌, List, [], ◌∷◌, Option, Some, None, cond, is_some}
+use Rattle.std.specs.Prelude.{ℕ, Bool, List, Some, None, cond, is_some}
 use Rattle.std.specs.List.{list_all}
 use Rattle.std.specs.Option.{option_map_or}
-use Rattle.gql_model.specs.declared.type_ref.TypeRef.{TypeRef, out-TypeRef}
-use Rattle.gql_model.specs.declared.type_ref.TypeRef.TheOpen.{TypeRef-F}
+use Rattle.gql_model.specs.declared.type_ref.TypeRef.{TypeRef}
 use Rattle.gql_value.specs.declared.value.Value.{Value, fold-Value}
 use Rattle.gql_value.specs.declared.value.Value.TheOpen.{Value-F}
 use Rattle.schema_model.specs.declared.schema.Schema.{Schema}
@@ -11,7 +10,7 @@ use Rattle.schema_model.specs.declared.schema.InputValue.{InputValue}
 use Rattle.schema_model.specs.Tables.{entry}
 use Rattle.schema_rules.specs.TypeRefs.{named_type}
 use Rattle.execution_model.specs.Scalars.{integer_at, boolean_at, text_at}
-use Rattle.execution_model.specs.Inputs.{Given, Refused, as_given, Meaning, MemberMeaning, null_at, items_at, as_list, Fill, input_fields_named, input_members, members_as_given, as_object, as_object_in, free_object}
+use Rattle.execution_model.specs.Inputs.{Given, Refused, as_given, Meaning, MemberMeaning, null_at, Fill, input_fields_named, input_members, members_as_given, as_object, as_object_in, free_object}
 use Rattle.execution_model.specs.Literals.{list_at}
 
 -- an object has known members only

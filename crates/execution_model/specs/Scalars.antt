@@ -1,5 +1,5 @@
 -- What single values become at a type, and how a single value becomes a list of one (GraphQL October 2021, 3.5, 3.9 and 3.11, Input Coercion).
-use Rattle.std.specs.Prelude.{ℕ, ℤ, Bool, true, false, List, [], ◌∷◌, Option, Some, None, cond, codes, bytes_eq, ◌||◌}
+use Rattle.std.specs.Prelude.{ℕ, ℤ, Bool, false, List, [], ◌∷◌, Option, Some, None, cond, codes, bytes_eq, ◌||◌}
 use Rattle.std.specs.Option.{option_map_or}
 use Rattle.std.specs.Fmt.{signed_decimal}
 use Rattle.gql_model.specs.declared.type_ref.TypeRef.{TypeRef, fold-TypeRef}

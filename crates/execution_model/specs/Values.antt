@@ -1,5 +1,5 @@
 -- Values as they are made and taken apart here.
-use Rattle.std.specs.Prelude.{ℕ, ℤ, ◌+◌, max, Bool, List, [], ◌∷◌, map, Option, Some, None, option_map, option_and_then}
+use Rattle.std.specs.Prelude.{ℕ, ℤ, ◌+◌, max, Bool, List, [], ◌∷◌, map, Option, Some, option_map, option_and_then}
 use Rattle.std.specs.List.{fold}
 use Rattle.gql_value.specs.declared.value.Value.{Value, fold-Value}
 use Rattle.gql_value.specs.declared.value.Value.TheOpen.{Value-F}

@@ -1,11 +1,9 @@
 -- The values of an operation's variables (GraphQL October 2021, 6.1.2, CoerceVariableValues).
-use Rattle.std.specs.Prelude.{ℕ, nat_lt, Bool, List, [], ◌∷◌, Option, Some, None, cond}
+use Rattle.std.specs.Prelude.{ℕ, nat_lt, List, [], ◌∷◌, Some, cond}
 use Rattle.std.specs.Option.{option_map_or}
 use Rattle.std.specs.declared.result.Result.{Result}
 use Rattle.std.specs.declared.result.Result.TheVariants.{Ok, Err}
 use Rattle.gql_model.specs.declared.executable.VariableDefinition.{VariableDefinition}
-use Rattle.gql_model.specs.declared.type_ref.TypeRef.{TypeRef}
-use Rattle.gql_value.specs.declared.value.Value.{Value}
 use Rattle.schema_model.specs.declared.schema.Schema.{Schema}
 use Rattle.schema_model.specs.Tables.{entry}
 use Rattle.schema_rules.specs.TypeRefs.{is_non_null}
@@ -23,7 +21,7 @@ bounded given = given
 abbrev pub not_given : Schema → VariableDefinition → Given
 not_given schema variable =
     option_map_or (λ literal. as_given (filled schema literal variable.variable_type.type_ref)) variable.default
-        (cond (is_non_null variable.variable_type.type_ref) Refused Absent)
+    (cond (is_non_null variable.variable_type.type_ref) Refused Absent)
 
 abbrev pub variable_meaning : Schema → Pairs → VariableDefinition → Given
 variable_meaning schema given variable =
