@@ -5,7 +5,6 @@ use Rattle.gql_model.specs.declared.selection.Directive.{Directive}
 use Rattle.gql_model.specs.declared.document.Document.{Document}
 use Rattle.schema_model.specs.declared.schema.Schema.{Schema}
 use Rattle.schema_model.specs.Tables.{entry}
-use Rattle.check_model.specs.declared.location.Location.{Location}
 use Rattle.check_model.specs.Directives.{is_built_in, may_stand, is_repeatable}
 use Rattle.check_model.specs.Repeated.{stands_twice}
 use Rattle.check_model.specs.Sites.{Site, some_site}

@@ -1,10 +1,10 @@
 -- What a schema says of a directive; `@skip` and `@include` are in each schema (GraphQL October 2021, 3.13.1 and 3.13.2).
-use Rattle.std.specs.Prelude.{ℕ, Bool, true, false, ◌||◌, List, [], ◌∷◌, Option, Some, None, is_some, cond, codes, bytes_eq}
+use Rattle.std.specs.Prelude.{ℕ, Bool, true, false, ◌||◌, List, [], ◌∷◌, None, cond, codes, bytes_eq}
 use Rattle.std.specs.List.{list_any}
 use Rattle.std.specs.Option.{option_map_or}
 use Rattle.gql_model.specs.declared.executable.OperationKind.{OperationKind}
 use Rattle.gql_model.specs.declared.executable.OperationKind.TheVariants as kind
-use Rattle.gql_model.specs.declared.type_ref.TypeRef.{TypeRef, roll-TypeRef}
+use Rattle.gql_model.specs.declared.type_ref.TypeRef.{roll-TypeRef}
 use Rattle.gql_model.specs.declared.type_ref.TypeRef.TheOpen.{TypeRef-F}
 use Rattle.schema_model.specs.declared.schema.Schema.{Schema}
 use Rattle.schema_model.specs.declared.schema.SchemaDirective.{SchemaDirective}

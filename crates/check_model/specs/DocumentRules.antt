@@ -1,14 +1,14 @@
 -- The rules on definitions and on spreads (GraphQL October 2021, 5.1, 5.2.1, 5.2.2, 5.5.1.1, 5.5.1.4 and 5.5.2).
-use Rattle.std.specs.Prelude.{ℕ, Bool, true, false, ◌&&◌, not, List, Option, Some, None, is_none}
-use Rattle.std.specs.List.{list_any, filter_map}
+use Rattle.std.specs.Prelude.{ℕ, Bool, true, false, ◌&&◌, not, List, [], ◌∷◌, ◌++◌, Option, Some, None, is_none, cond, length}
+use Rattle.std.specs.List.{list_any, filter_map, zip}
 use Rattle.std.specs.Option.{option_map}
 use Rattle.gql_model.specs.declared.executable.Operation.{Operation}
 use Rattle.gql_model.specs.declared.document.Document.{Document}
 use Rattle.gql_model.specs.declared.document.Definition.{Definition}
 use Rattle.gql_model.specs.declared.document.Definition.TheVariants as definition
 use Rattle.check_model.specs.Executables.{operations, only, fragment_named, operation_is, fragment_is, some_operation, placed}
-use Rattle.check_model.specs.Spreads.{spread_names, spread_graph, reaches_by_spreads}
-use Rattle.digraph.specs.Walks.{has_circle}
+use Rattle.check_model.specs.Spreads.{spread_names, spread_graph}
+use Rattle.digraph.specs.Walks.{Graph, has_circle, reached_from}
 use Rattle.check_model.specs.Repeated.{stands_twice}
 
 abbrev pub is_type_system : Definition → Bool
@@ -63,13 +63,22 @@ breaks_spread_target_defined document = list_any (spreads_unknown document) docu
 abbrev pub breaks_fragment_cycles : Document → Bool
 breaks_fragment_cycles document = has_circle (spread_graph document)
 
--- whether some operation reaches the definition at a place
-abbrev pub is_used : Document → ℕ → Bool
-is_used document place = list_any (λ p. operation_is (λ o. reaches_by_spreads document p.0 place) p.1) (placed document)
+-- the places of the operations
+abbrev pub operation_place : ℕ × Definition → Option ℕ
+operation_place p = cond (operation_is (λ o. true) p.1) (Some p.0) None
 
-abbrev pub is_unused : Document → ℕ × Definition → Bool
-is_unused document p = fragment_is (λ f. not (is_used document p.0)) p.1
+-- the graph of spreads with a last node that leads to each operation
+abbrev pub used_graph : Document → Graph
+used_graph document = spread_graph document ++ filter_map operation_place (placed document) ∷ []
+
+-- of each definition, whether a walk leads to it from an operation
+abbrev pub used_marks : Document → List Bool
+used_marks document = reached_from (used_graph document) (length document.definitions)
+
+-- a fragment that isn't so
+abbrev pub is_unused : Definition × Bool → Bool
+is_unused p = fragment_is (λ f. not p.1) p.0
 
 -- V7, 5.5.1.4 Fragments Must Be Used: no operation reaches a fragment
 abbrev pub breaks_fragments_used : Document → Bool
-breaks_fragments_used document = list_any (is_unused document) (placed document)
+breaks_fragments_used document = list_any is_unused (zip document.definitions (used_marks document))

@@ -1,6 +1,6 @@
 -- The types of selection sets and of the fields in them (GraphQL October 2021, 5.3.1; 4.4 for `__typename`).
-use Rattle.std.specs.Prelude.{ℕ, Bool, true, false, ◌||◌, List, [], ◌∷◌, Option, Some, None, is_some, cond, codes, bytes_eq}
-use Rattle.std.specs.Option.{option_map, option_map_or, option_and_then}
+use Rattle.std.specs.Prelude.{ℕ, Bool, true, false, List, [], Option, Some, None, cond, codes, bytes_eq}
+use Rattle.std.specs.Option.{option_map_or, option_and_then}
 use Rattle.gql_model.specs.declared.name.Name.{Name}
 use Rattle.gql_model.specs.declared.executable.OperationKind.{OperationKind}
 use Rattle.gql_model.specs.declared.type_ref.TypeRef.{TypeRef, roll-TypeRef}

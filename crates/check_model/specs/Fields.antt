@@ -1,16 +1,13 @@
 -- The fields of an operation at every depth, with all spreads and inline fragments followed, whatever their types (after GraphQL October 2021, 5.3.2, FieldsInSetCanMerge).
-use Rattle.std.specs.Prelude.{ℕ, Bool, List, [], ◌∷◌, ◌++◌, Option, Some, None, map}
+use Rattle.std.specs.Prelude.{ℕ, List, [], ◌∷◌, Option, Some, None, map}
 use Rattle.std.specs.List.{flat_map}
 use Rattle.std.specs.Option.{option_map_or}
 use Rattle.gql_model.specs.declared.name.Name.{Name}
 use Rattle.gql_model.specs.declared.type_ref.TypeRef.{TypeRef}
 use Rattle.gql_model.specs.declared.selection.Argument.{Argument}
-use Rattle.gql_model.specs.declared.selection.Field.{Field}
-use Rattle.gql_model.specs.declared.selection.InlineFragment.{InlineFragment}
-use Rattle.gql_model.specs.declared.selection.Selection.{Selection}
 use Rattle.gql_model.specs.declared.selection.SelectionSet.{SelectionSet}
 use Rattle.gql_model.specs.declared.selection.Selection.TheOpen.{SelectionSet-F, Selection-F, Field-F, InlineFragment-F}
-use Rattle.gql_model.specs.declared.selection.Selection.TheFolds.{fold-SelectionSet, fold-Selection, fold-Field, fold-InlineFragment}
+use Rattle.gql_model.specs.declared.selection.Selection.TheFolds.{fold-SelectionSet}
 use Rattle.gql_model.specs.declared.executable.Operation.{Operation}
 use Rattle.gql_model.specs.declared.executable.Fragment.{Fragment}
 use Rattle.gql_model.specs.declared.document.Document.{Document}

@@ -9,8 +9,6 @@ use Rattle.gql_model.specs.declared.selection.Selection.{Selection}
 use Rattle.gql_model.specs.declared.selection.SelectionSet.{SelectionSet}
 use Rattle.gql_model.specs.declared.selection.Selection.TheOpen.{SelectionSet-F, Selection-F, Field-F, InlineFragment-F}
 use Rattle.gql_model.specs.declared.selection.Selection.TheFolds.{fold-SelectionSet, fold-Selection, fold-Field, fold-InlineFragment}
-use Rattle.gql_model.specs.declared.executable.Operation.{Operation}
-use Rattle.gql_model.specs.declared.executable.Fragment.{Fragment}
 use Rattle.gql_model.specs.declared.document.Document.{Document}
 use Rattle.check_model.specs.Executables.{some_operation, some_fragment}
 use Rattle.check_model.specs.FieldTypes.{is_typename}

@@ -1,14 +1,11 @@
 -- A subscription has a single root field (GraphQL October 2021, 5.2.3.1); `@skip` and `@include` are ignored, which is this project's own.
-use Rattle.std.specs.Prelude.{ℕ, Bool, true, false, ◌&&◌, ◌||◌, not, List, [], ◌∷◌, ◌++◌, Option, Some, None, cond, bytes_eq}
-use Rattle.std.specs.List.{list_any, list_all, flat_map}
+use Rattle.std.specs.Prelude.{ℕ, Bool, true, false, ◌&&◌, not, List, [], ◌∷◌, Option, Some, None, cond, bytes_eq}
+use Rattle.std.specs.List.{list_all, flat_map}
 use Rattle.std.specs.Option.{option_map_or}
 use Rattle.gql_model.specs.declared.name.Name.{Name}
-use Rattle.gql_model.specs.declared.selection.Field.{Field}
-use Rattle.gql_model.specs.declared.selection.InlineFragment.{InlineFragment}
-use Rattle.gql_model.specs.declared.selection.Selection.{Selection}
 use Rattle.gql_model.specs.declared.selection.SelectionSet.{SelectionSet}
 use Rattle.gql_model.specs.declared.selection.Selection.TheOpen.{SelectionSet-F, Selection-F, Field-F, InlineFragment-F}
-use Rattle.gql_model.specs.declared.selection.Selection.TheFolds.{fold-SelectionSet, fold-Selection, fold-Field, fold-InlineFragment}
+use Rattle.gql_model.specs.declared.selection.Selection.TheFolds.{fold-SelectionSet}
 use Rattle.gql_model.specs.declared.executable.OperationKind.{OperationKind}
 use Rattle.gql_model.specs.declared.executable.OperationKind.TheVariants as kind
 use Rattle.gql_model.specs.declared.executable.Operation.{Operation}

@@ -1,5 +1,5 @@
 -- Literals and arguments that are equal as trees, wherever they stand (GraphQL October 2021, 5.3.2).
-use Rattle.std.specs.Prelude.{ℕ, ℤ, Bool, true, false, ◌&&◌, ◌==◌, List, [], ◌∷◌, length, bytes_eq}
+use Rattle.std.specs.Prelude.{ℕ, Bool, true, false, ◌&&◌, ◌==◌, List, [], ◌∷◌, length, bytes_eq}
 use Rattle.std.specs.List.{list_any, list_all}
 use Rattle.gql_model.specs.declared.literal.Literal.{Literal, out-Literal}
 use Rattle.gql_model.specs.declared.literal.LiteralValue.{LiteralValue, out-LiteralValue}

@@ -1,16 +1,14 @@
 -- The rules on type conditions, fields and spreads (GraphQL October 2021, 5.3.1, 5.3.3, 5.5.1.2, 5.5.1.3 and 5.5.2.3).
-use Rattle.std.specs.Prelude.{ℕ, Bool, true, false, ◌&&◌, ◌||◌, not, List, Option, Some, None, is_some, is_none, cond}
-use Rattle.std.specs.List.{list_any}
+use Rattle.std.specs.Prelude.{ℕ, Bool, true, false, ◌&&◌, ◌||◌, not, List, is_some, is_none}
 use Rattle.std.specs.Option.{option_map_or}
 use Rattle.gql_model.specs.declared.executable.Operation.{Operation}
-use Rattle.gql_model.specs.declared.type_ref.TypeRef.{TypeRef}
 use Rattle.gql_model.specs.declared.document.Document.{Document}
 use Rattle.schema_model.specs.declared.schema.Schema.{Schema}
 use Rattle.schema_model.specs.declared.schema.TypeId.{TypeId}
 use Rattle.schema_model.specs.Schemas.{id_named, root_of, field_of}
 use Rattle.schema_model.specs.Possible.{have_common_object_of}
 use Rattle.check_model.specs.Executables.{some_operation}
-use Rattle.check_model.specs.FieldTypes.{Parent, composite_named, is_typename, field_parent_on}
+use Rattle.check_model.specs.FieldTypes.{composite_named, is_typename, field_parent_on}
 use Rattle.check_model.specs.Sites.{Site, some_site}
 
 -- a type condition names no type

@@ -1,5 +1,5 @@
 -- Types whose results have the same shape (GraphQL October 2021, 5.3.2, SameResponseShape).
-use Rattle.std.specs.Prelude.{ℕ, Bool, true, false, ◌&&◌, ◌||◌, not, List, Option, Some, None, bytes_eq}
+use Rattle.std.specs.Prelude.{ℕ, Bool, true, false, ◌&&◌, ◌||◌, not, List, bytes_eq}
 use Rattle.std.specs.Option.{option_map_or}
 use Rattle.gql_model.specs.declared.type_ref.TypeRef.{TypeRef, out-TypeRef, fold-TypeRef}
 use Rattle.gql_model.specs.declared.type_ref.TypeRef.TheOpen.{TypeRef-F}

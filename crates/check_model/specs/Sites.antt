@@ -1,7 +1,7 @@
 -- What the rules judge: each part of a document with what the schema says of where it stands, in document order (GraphQL October 2021, 5.3 to 5.7).
 use Rattle.std.specs.Prelude.{ℕ, Bool, List, [], ◌∷◌, ◌++◌, Option, Some, None, is_some, map}
 use Rattle.std.specs.List.{flat_map, list_any}
-use Rattle.std.specs.Option.{option_map, option_map_or, option_and_then}
+use Rattle.std.specs.Option.{option_and_then}
 use Rattle.gql_model.specs.declared.name.Name.{Name}
 use Rattle.gql_model.specs.declared.literal.Literal.{Literal}
 use Rattle.gql_model.specs.declared.type_ref.TypeRef.{TypeRef}

@@ -1,6 +1,6 @@
 -- How deep selection sets nest and how many fields definitions have, with all spreads followed; the limits are this project's own.
-use Rattle.std.specs.Prelude.{ℕ, ◌+◌, ◌<◌, nat_lt, max, Bool, ◌||◌, List, [], ◌∷◌, Option}
-use Rattle.std.specs.List.{list_any, sum, fold}
+use Rattle.std.specs.Prelude.{ℕ, ◌+◌, nat_lt, max, Bool, ◌||◌}
+use Rattle.std.specs.List.{fold}
 use Rattle.std.specs.Option.{unwrap_or}
 use Rattle.gql_model.specs.declared.selection.Field.{Field}
 use Rattle.gql_model.specs.declared.selection.InlineFragment.{InlineFragment}

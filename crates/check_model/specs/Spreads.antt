@@ -1,8 +1,7 @@
 -- Which fragments are spread where (GraphQL October 2021, 2.8 and 5.5.2.2).
-use Rattle.std.specs.Prelude.{ℕ, Bool, List, [], ◌∷◌, Option, map}
-use Rattle.std.specs.List.{flat_map, filter_map}
+use Rattle.std.specs.Prelude.{ℕ, List, [], ◌∷◌, map}
+use Rattle.std.specs.List.{flat_map, filter_map, items_where_true}
 use Rattle.std.specs.Option.{unwrap_or}
-use Rattle.gql_model.specs.declared.selection.Spread.{Spread}
 use Rattle.gql_model.specs.declared.selection.Field.{Field}
 use Rattle.gql_model.specs.declared.selection.InlineFragment.{InlineFragment}
 use Rattle.gql_model.specs.declared.selection.Selection.{Selection}
@@ -13,7 +12,7 @@ use Rattle.gql_model.specs.declared.document.Document.{Document}
 use Rattle.gql_model.specs.declared.document.Definition.{Definition}
 use Rattle.gql_model.specs.declared.document.Definition.TheVariants as definition
 use Rattle.check_model.specs.Executables.{fragment_place}
-use Rattle.digraph.specs.Walks.{Graph, reaches}
+use Rattle.digraph.specs.Walks.{Graph, reached_from}
 
 -- the names that are spread in a selection, a field, an inline fragment or a set
 abbrev pub Spreads : Type 0
@@ -65,6 +64,6 @@ definition_targets document d = targets document (spread_names d)
 abbrev pub spread_graph : Document → Graph
 spread_graph document = map (definition_targets document) document.definitions
 
--- whether the definition at a place reaches the one at another by spreads, one or more
-abbrev pub reaches_by_spreads : Document → ℕ → ℕ → Bool
-reaches_by_spreads document from to = reaches (spread_graph document) from to
+-- the definitions that the one at a place reaches by spreads
+abbrev pub definitions_reached : Document → ℕ → List Definition
+definitions_reached document place = items_where_true (reached_from (spread_graph document) place) document.definitions

@@ -1,5 +1,5 @@
 -- Where variables are used, and what is wanted there (GraphQL October 2021, 5.8.3 to 5.8.5).
-use Rattle.std.specs.Prelude.{ℕ, Bool, false, List, [], ◌∷◌, ◌++◌, Option, Some, None, is_some, filter}
+use Rattle.std.specs.Prelude.{ℕ, Bool, false, List, [], ◌∷◌, ◌++◌, Option, Some, None, is_some}
 use Rattle.std.specs.List.{flat_map}
 use Rattle.std.specs.Option.{option_map, option_map_or, option_and_then}
 use Rattle.gql_model.specs.declared.literal.Literal.{Literal}
@@ -17,8 +17,7 @@ use Rattle.schema_model.specs.declared.schema.InputValue.{InputValue}
 use Rattle.schema_model.specs.Schemas.{input_fields_in}
 use Rattle.schema_model.specs.Tables.{entry}
 use Rattle.schema_rules.specs.TypeRefs.{named_type}
-use Rattle.check_model.specs.Executables.{placed}
-use Rattle.check_model.specs.Spreads.{reaches_by_spreads}
+use Rattle.check_model.specs.Spreads.{definitions_reached}
 use Rattle.check_model.specs.Sites.{Site, definition_sites}
 
 -- a type that a value stands at, and whether there is a default in its place
@@ -102,12 +101,8 @@ site_usages schema _ = []
 abbrev pub definition_usages : Schema → Document → Definition → Usages
 definition_usages schema document d = flat_map (site_usages schema) (definition_sites schema document d)
 
--- the definitions that the one at a place reaches
-abbrev pub reached_from_place : Document → ℕ → List (ℕ × Definition)
-reached_from_place document place = filter (λ p. reaches_by_spreads document place p.0) (placed document)
-
 -- the variables that the definition at a place uses, in itself and in each fragment that it reaches
 abbrev pub followed_usages : Schema → Document → ℕ × Definition → Usages
 followed_usages schema document p =
     definition_usages schema document p.1
-    ++ flat_map (λ q. definition_usages schema document q.1) (reached_from_place document p.0)
+    ++ flat_map (definition_usages schema document) (definitions_reached document p.0)
