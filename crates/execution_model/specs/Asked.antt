@@ -17,7 +17,8 @@ use Rattle.check_model.specs.FieldTypes.{arguments_on}
 use Rattle.execution_model.specs.Values.{Pairs}
 use Rattle.execution_model.specs.Arguments.{coerced_arguments}
 use Rattle.execution_model.specs.Fronts.{Fronts, fronts_of}
-use Rattle.execution_model.specs.Collection.{SetId, Group, collected}
+use Rattle.execution_model.specs.declared.group.Group.{Group}
+use Rattle.execution_model.specs.Collection.{SetId, collected}
 
 -- a document under its schema, the place of the chosen operation among its definitions, and the coerced values of that operation's variables
 pub record Execution : Type 0 where

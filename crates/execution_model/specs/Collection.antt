@@ -1,7 +1,7 @@
 -- The fields that selection sets collect for an object type (GraphQL October 2021, 6.3.2, CollectFields). Sets and fields are named by their numbers.
-use Rattle.std.specs.Prelude.{ℕ, zero, suc, Bool, false, List, [], ◌∷◌, ◌++◌, map, Option, Some, None, cond, codes, bytes_eq, slice_index_or}
-use Rattle.std.specs.List.{fold, list_any, zip, slice_get}
-use Rattle.std.specs.Option.{unwrap_or, option_map, option_map_or, option_and_then}
+use Rattle.std.specs.Prelude.{ℕ, zero, suc, ◌+◌, Bool, false, List, [], ◌∷◌, ◌++◌, Option, Some, None, is_some, cond, codes, bytes_eq, slice_index_or, slice_set}
+use Rattle.std.specs.List.{fold, position_from, slice_get}
+use Rattle.std.specs.Option.{option_map, option_map_or, option_and_then}
 use Rattle.gql_model.specs.declared.name.Name.{Name}
 use Rattle.gql_model.specs.declared.selection.Directive.{Directive}
 use Rattle.gql_model.specs.declared.selection.Selection.{Selection, out-Selection}
@@ -9,6 +9,7 @@ use Rattle.gql_model.specs.declared.selection.SelectionSet.{SelectionSet}
 use Rattle.gql_model.specs.declared.selection.Selection.TheOpen.{Selection-F}
 use Rattle.gql_model.specs.declared.selection.Field.{Field, out-Field}
 use Rattle.gql_model.specs.declared.selection.InlineFragment.{InlineFragment}
+use Rattle.gql_model.specs.declared.executable.Fragment.{Fragment}
 use Rattle.gql_model.specs.declared.document.Document.{Document}
 use Rattle.schema_model.specs.declared.schema.Schema.{Schema}
 use Rattle.schema_model.specs.declared.schema.TypeId.{TypeId}
@@ -16,9 +17,11 @@ use Rattle.gql_numbering.specs.declared.mark.Mark.{Mark}
 use Rattle.gql_numbering.specs.Parts.{selections_of}
 use Rattle.gql_numbering.specs.Beginnings.{sets_of}
 use Rattle.gql_numbering.specs.Marks.{marks_of, definition_marks}
-use Rattle.check_model.specs.Executables.{fragment_named, fragment_place}
+use Rattle.schema_model.specs.Tables.{entry, put}
+use Rattle.check_model.specs.Executables.{as_fragment, fragment_place}
 use Rattle.check_model.specs.Fields.{response_key}
 use Rattle.check_model.specs.RootFields.{applies, applies_inline}
+use Rattle.execution_model.specs.declared.group.Group.{Group}
 use Rattle.execution_model.specs.Values.{Pairs}
 use Rattle.execution_model.specs.Conditions.{is_passed_over}
 use Rattle.execution_model.specs.Fronts.{Fronts}
@@ -26,13 +29,6 @@ use Rattle.execution_model.specs.Fronts.{Fronts}
 -- the numbers of selection sets whose selections are joined, one set behind another
 abbrev pub SetId : Type 0
 SetId = List ℕ
-
--- The fields of one response key: the number of the first of them, and their own sets, joined. A field without a
--- number is the `__typename` that is put at the front of a set when the operation is sent.
-pub record Group : Type 0 where
-  pub key : List ℕ
-  pub field : Option ℕ
-  pub sets : SetId
 
 -- a document with its schema, the values of variables, the object type for which fields are collected, and for each
 -- set whether `__typename` is put at its front; for the client's own selection no set gets it
@@ -43,20 +39,29 @@ pub record Context : Type 0 where
   pub object : TypeId
   pub fronts : Fronts
 
--- the groups so far, in order of first appearance, and the names of the fragments that were spread
+-- The groups so far, in order of first appearance, and the fragments that were spread, each with the number of its set.
 pub record Collecting : Type 0 where
   pub groups : List Group
-  pub spread : List (List ℕ)
+  pub spread : List (List ℕ × ℕ)
+
+-- ---- groups
 
 abbrev pub has_key : List ℕ → Group → Bool
 has_key key group = bytes_eq key group.key
 
-abbrev pub joined : List ℕ → SetId → Group → Group
-joined key sets group = cond (has_key key group) (record group { sets = group.sets ++ sets }) group
+-- the place of the group of a key
+abbrev pub group_place : List ℕ → List Group → Option ℕ
+group_place key groups = position_from (has_key key) 0 groups
+
+abbrev pub with_sets : SetId → Group → Group
+with_sets sets group = record group { sets = group.sets ++ sets }
+
+abbrev pub joined_at : Group → List Group → ℕ → List Group
+joined_at field groups at = slice_set groups at (with_sets field.sets (slice_index_or groups at field))
 
 -- a field joins the group of its key, or begins one
 abbrev pub grouped : Group → List Group → List Group
-grouped field groups = cond (list_any (has_key field.key) groups) (map (joined field.key field.sets) groups) (groups ++ field ∷ [])
+grouped field groups = option_map_or (joined_at field groups) (group_place field.key groups) (groups ++ field ∷ [])
 
 -- a field's own set has the number that is next at the field's mark
 abbrev pub own_set : Mark → Option SelectionSet → SetId
@@ -85,27 +90,37 @@ typename_group = record { key = codes "__typename"; field = None; sets = [] }
 abbrev pub with_front : Fronts → ℕ → Collecting → Collecting
 with_front fronts set state = cond (slice_index_or fronts set false) (record state { groups = grouped typename_group state.groups }) state
 
--- the number of the set of the fragment of a name
-abbrev pub fragment_set : Document → List ℕ → Option ℕ
-fragment_set document name = option_map (λ m. m.sets) (option_and_then (slice_get (definition_marks document)) (fragment_place document name))
+-- ---- fragments
 
--- whether a fragment of this name applies to the object type
-abbrev pub applies_named : Context → List ℕ → Bool
-applies_named context name =
-    option_map_or (λ f. applies context.schema context.object f.type_condition.text) (fragment_named context.document name) false
+-- a fragment of a condition, whose set has this number
+abbrev pub Spreading : Type 0
+Spreading = List ℕ × ℕ
 
-abbrev pub spread_once : List ℕ → Collecting → Collecting
-spread_once name state = record state { spread = name ∷ state.spread }
+abbrev pub spreading : Fragment → Mark → Spreading
+spreading fragment mark = (fragment.type_condition.text, mark.sets)
+
+-- the fragment that is the definition at a place
+abbrev pub fragment_at : Document → ℕ → Option Spreading
+fragment_at document place =
+    option_and_then (λ f. option_map (spreading f) (slice_get (definition_marks document) place))
+        (option_and_then as_fragment (slice_get document.definitions place))
+
+-- the fragment of a name
+abbrev pub spread_fragment : Document → List ℕ → Option Spreading
+spread_fragment document name = option_and_then (fragment_at document) (fragment_place document name)
+
+abbrev pub spread_once : List ℕ → ℕ → Collecting → Collecting
+spread_once name set state = record state { spread = put state.spread (name, set) }
 
 -- a fragment's set is followed, where its condition is the object type or stands for it
-abbrev pub with_fragment : Following → Context → List ℕ → Collecting → Collecting
-with_fragment follow context name state =
-    cond (applies_named context name) (option_map_or (λ set. follow set state) (fragment_set context.document name) state) state
+abbrev pub with_fragment : Following → Context → List ℕ → Collecting → Spreading → Collecting
+with_fragment follow context name state fragment =
+    cond (applies context.schema context.object fragment.0) (follow fragment.1 (spread_once name fragment.1 state)) state
 
--- a fragment is spread once in one collection
+-- a fragment that was followed isn't followed again in one collection
 abbrev pub with_spread : Following → Context → List ℕ → Collecting → Collecting
 with_spread follow context name state =
-    cond (list_any (bytes_eq name) state.spread) state (with_fragment follow context name (spread_once name state))
+    cond (is_some (entry state.spread name)) state (option_map_or (with_fragment follow context name state) (spread_fragment context.document name) state)
 
 abbrev pub with_inline : Following → Context → Mark → Option Name → Collecting → Collecting
 with_inline follow context mark condition state = cond (applies_inline context.schema context.object condition) (follow mark.sets state) state
@@ -120,25 +135,50 @@ with_open_selection follow context mark (Selection-F.Field field) state = with_f
 with_open_selection follow context mark (Selection-F.Spread spread) state = with_spread follow context spread.name.text state
 with_open_selection follow context mark (Selection-F.Inline fragment) state = with_inline follow context mark fragment.type_condition state
 
-abbrev pub with_selection : Following → Context → Collecting → Mark × Selection → Collecting
-with_selection follow context state p =
-    cond (is_passed_over context.variables (directives_of (out-Selection p.1))) state (with_open_selection follow context p.0 (out-Selection p.1) state)
+abbrev pub with_selection : Following → Context → Mark → Selection → Collecting → Collecting
+with_selection follow context mark selection state =
+    cond (is_passed_over context.variables (directives_of (out-Selection selection))) state (with_open_selection follow context mark (out-Selection selection) state)
 
--- the selections of the set of a number, each with the mark before it
-abbrev pub numbered_selections : Document → ℕ → List (Mark × Selection)
-numbered_selections document set =
-    zip (unwrap_or (slice_get (marks_of document) set) []) (option_map_or selections_of (slice_get (sets_of document) set) [])
+-- ---- sets
+
+-- the selection at a place of a set, where these marks stand before the set's selections
+abbrev pub with_nth : Following → Context → List Mark → ℕ → Selection → Collecting → Collecting
+with_nth follow context marks at selection state =
+    option_map_or (λ mark. with_selection follow context mark selection state) (slice_get marks at) state
+
+-- the selections of a set from the one at `at` on
+abbrev pub through : (ℕ → Selection → Collecting → Collecting) → ℕ → List Selection → Collecting → Collecting
+through step at [] state = state
+through step at (selection ∷ selections) state = through step (at + 1) selections (step at selection state)
+
+-- the set of a number, its front first
+abbrev pub with_set : Following → Context → ℕ → Collecting → List Mark → SelectionSet → Collecting
+with_set follow context number state marks set =
+    through (with_nth follow context marks) 0 (selections_of set) (with_front context.fronts number state)
+
+abbrev pub with_numbered : Following → Context → ℕ → Collecting → List Mark → Collecting
+with_numbered follow context number state marks =
+    option_map_or (with_set follow context number state marks) (slice_get (sets_of context.document) number) state
+
+abbrev pub follow_set : Following → Context → Following
+follow_set follow context number state =
+    option_map_or (with_numbered follow context number state) (slice_get (marks_of context.document) number) state
 
 -- follows a set so deep, and nothing below
 abbrev pub followed_within : ℕ → Context → Following
-followed_within zero context set state = state
-followed_within (suc n) context set state =
-    fold (with_selection (followed_within n context) context) (with_front context.fronts set state) (numbered_selections context.document set)
+followed_within zero context number state = state
+followed_within (suc n) context number state = follow_set (followed_within n context) context number state
 
 -- with spreads followed, the sets of a checked document nest no deeper than 64
 abbrev pub followed : Context → Following
 followed = followed_within 64
 
+abbrev pub nothing_collected : Collecting
+nothing_collected = record { groups = []; spread = [] }
+
+abbrev pub with_joined : Context → Collecting → ℕ → Collecting
+with_joined context state set = followed context set state
+
 -- the fields that joined sets collect, by response key, in order of first appearance
 abbrev pub collected : Context → SetId → List Group
-collected context sets = (fold (λ state set. followed context set state) (record { groups = []; spread = [] }) sets).groups
+collected context sets = (fold (with_joined context) nothing_collected sets).groups

@@ -5,3 +5,7 @@
 //! It has no code. Its contract for the layers above is its `specs/`: total functions, said of an
 //! operation of a document that no rule of validation refuses.
 #![tactic(auto)]
+
+mod group;
+
+pub use group::Group;
