@@ -11,7 +11,7 @@ use Rattle.schema_model.specs.declared.schema.TypeId.{TypeId}
 use Rattle.schema_model.specs.Tables.{entry}
 use Rattle.check_model.specs.FieldTypes.{parent_below}
 use Rattle.execution_model.specs.Values.{Pairs, list_value, object_value}
-use Rattle.execution_model.specs.Collection.{SetId}
+use Rattle.execution_model.specs.Collection.{SetId, deepest}
 use Rattle.execution_model.specs.Asked.{Execution, Asked, asked_by_client, root_type, root_sets}
 use Rattle.answer_model.specs.Types.{type_of_members}
 
@@ -58,7 +58,7 @@ cut_within (suc n) execution sets type members =
     filter_map (member_cut (cut_within n execution) execution.schema members) (asked_by_client execution type sets)
 
 abbrev pub data_cut : Execution → Value → Value-F Value → TypeId → Value
-data_cut execution answer (Value-F.Obj members) type = object_value (cut_within 64 execution (root_sets execution) type members)
+data_cut execution answer (Value-F.Obj members) type = object_value (cut_within deepest execution (root_sets execution) type members)
 data_cut execution answer _ type = answer
 
 -- the answer cut to the client's own selection

@@ -18,7 +18,7 @@ use Rattle.cache_model.specs.declared.cell.Link.TheOpen.{Link-F}
 use Rattle.cache_model.specs.Keys.{root_text}
 use Rattle.cache_model.specs.Maps.{CellMap}
 use Rattle.execution_model.specs.Values.{null_value, text_value, list_value, object_value, all_of}
-use Rattle.execution_model.specs.Collection.{SetId}
+use Rattle.execution_model.specs.Collection.{SetId, deepest}
 use Rattle.execution_model.specs.Asked.{Execution, Asked, asked_by_client, root_type, root_sets}
 use Rattle.answer_model.specs.Keys.{field_key}
 use Rattle.answer_model.specs.Fits.{fitted}
@@ -218,7 +218,7 @@ abbrev pub read_positions : List Position → ReadAll
 read_positions positions = (reading_of positions (of_positions positions), (of_positions positions).visited)
 
 abbrev pub read_root : Execution → CellMap → ObjectType → ReadAll
-read_root execution cells type = read_positions (positions_within 64 execution cells (root_sets execution) type (root_text type.1))
+read_root execution cells type = read_positions (positions_within deepest execution cells (root_sets execution) type (root_text type.1))
 
 -- the reading of an operation from a map of cells
 abbrev pub read_from : Execution → CellMap → ReadAll

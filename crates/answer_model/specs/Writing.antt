@@ -26,7 +26,7 @@ use Rattle.cache_model.specs.declared.write.Write.TheVariants as write
 use Rattle.cache_model.specs.Keys.{embedded_text, root_text}
 use Rattle.entity_keys.specs.Objects.{object_key}
 use Rattle.execution_model.specs.Values.{Pairs, null_value, text_value}
-use Rattle.execution_model.specs.Collection.{SetId}
+use Rattle.execution_model.specs.Collection.{SetId, deepest}
 use Rattle.execution_model.specs.Asked.{Execution, Asked, asked_as_sent, chosen_kind, root_type, root_sets}
 use Rattle.answer_model.specs.Paths.{Key, Path, at_places, each, is_above_error, error_paths}
 use Rattle.answer_model.specs.Keys.{field_key}
@@ -239,9 +239,9 @@ root_object execution type members = record {
   keeps = option_map_or keeps_root (chosen_kind execution) false;
 }
 
--- the sets of a checked document nest no deeper than 64, and so do the objects of an answer
+-- objects nest as deep as the sets that ask for them
 abbrev pub root_written : Answered → Pairs → ObjectType → Writes
-root_written answered members type = fields_written_within 64 answered (root_sets answered.execution) (root_object answered.execution type members)
+root_written answered members type = fields_written_within deepest answered (root_sets answered.execution) (root_object answered.execution type members)
 
 abbrev pub root_members_written : Answered → Pairs → Writes
 root_members_written answered members =

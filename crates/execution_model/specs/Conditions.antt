@@ -13,21 +13,23 @@ use Rattle.gql_value.specs.declared.value.Value.TheOpen.{Value-F}
 use Rattle.schema_model.specs.Tables.{entry}
 use Rattle.execution_model.specs.Values.{Pairs}
 
+abbrev pub is_wanted : Bool → Bool → Bool
+is_wanted true b = b
+is_wanted false b = not b
+
 abbrev pub is_bool_value : Bool → Value-F Value → Bool
-is_bool_value true (Value-F.Bool b) = b
-is_bool_value false (Value-F.Bool b) = not b
+is_bool_value wanted (Value-F.Bool b) = is_wanted wanted b
 is_bool_value wanted _ = false
 
 abbrev pub is_bool_literal : Bool → Pairs → LiteralValue-F LiteralValue Literal ObjectField → Bool
-is_bool_literal true variables (LiteralValue-F.Boolean b) = b
-is_bool_literal false variables (LiteralValue-F.Boolean b) = not b
+is_bool_literal wanted variables (LiteralValue-F.Boolean b) = is_wanted wanted b
 is_bool_literal wanted variables (LiteralValue-F.Variable name) = option_map_or (λ v. is_bool_value wanted (out-Value v)) (entry variables name) false
 is_bool_literal wanted variables _ = false
 
 -- whether the argument `if` is this truth value; null is neither
 abbrev pub condition_is : Bool → Pairs → List Argument → Bool
 condition_is wanted variables arguments =
-    option_map_or (λ a. is_bool_literal wanted variables (out-LiteralValue (out-Literal a.value).value)) (find (λ a. bytes_eq (codes "if") a.name.text) arguments) false
+    option_map_or (λ a. is_bool_literal wanted variables (out-LiteralValue (out-Literal a.value).value)) (find (λ a. bytes_eq a.name.text (codes "if")) arguments) false
 
 -- `@skip(if: true)` or `@include(if: false)`
 abbrev pub leaves_out : Pairs → Directive → Bool
