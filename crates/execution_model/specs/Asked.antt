@@ -15,14 +15,16 @@ use Rattle.gql_numbering.specs.Beginnings.{fields_of}
 use Rattle.gql_numbering.specs.Marks.{definition_marks}
 use Rattle.check_model.specs.FieldTypes.{arguments_on}
 use Rattle.execution_model.specs.Values.{Pairs}
+use Rattle.execution_model.specs.Inputs.{Defaults}
 use Rattle.execution_model.specs.Arguments.{coerced_arguments}
 use Rattle.execution_model.specs.Fronts.{Fronts, fronts_of}
 use Rattle.execution_model.specs.declared.group.Group.{Group}
 use Rattle.execution_model.specs.Collection.{SetId, collected}
 
--- a document under its schema, the place of the chosen operation among its definitions, and the coerced values of that operation's variables
+-- a document under its schema, with the values of the schema's defaults, the place of the chosen operation among its definitions, and the coerced values of that operation's variables
 pub record Execution : Type 0 where
   pub schema : Schema
+  pub defaults : Defaults
   pub document : Document
   pub operation : ℕ
   pub variables : Pairs
@@ -69,7 +71,7 @@ abbrev pub asked_as : Execution → TypeId → Group → Written → Asked
 asked_as execution object group written = record {
   key = group.key;
   name = written.0;
-  arguments = coerced_arguments execution.schema execution.variables (arguments_on execution.schema written.0 object) written.1;
+  arguments = coerced_arguments execution.defaults execution.schema execution.variables (arguments_on execution.schema written.0 object) written.1;
   type = field_type_of execution.schema object written.0;
   sets = group.sets;
 }

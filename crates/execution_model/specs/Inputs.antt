@@ -1,13 +1,12 @@
 -- Input objects (GraphQL October 2021, 3.10, Input Coercion): members in the order of the type's fields.
 use Rattle.std.specs.Prelude.{ℕ, List, [], ◌∷◌, Option, Some, None, cond}
-use Rattle.std.specs.Option.{option_map, option_map_or, option_and_then}
-use Rattle.gql_model.specs.declared.literal.Literal.{Literal}
+use Rattle.std.specs.Option.{option_map, option_map_or, option_and_then, unwrap_or}
 use Rattle.gql_model.specs.declared.type_ref.TypeRef.{TypeRef}
 use Rattle.gql_value.specs.declared.value.Value.{Value}
 use Rattle.schema_model.specs.declared.schema.Schema.{Schema}
 use Rattle.schema_model.specs.declared.schema.InputValue.{InputValue}
 use Rattle.schema_model.specs.Schemas.{input_fields_in}
-use Rattle.schema_model.specs.Tables.{entry}
+use Rattle.schema_model.specs.Tables.{entry, tabled}
 use Rattle.schema_rules.specs.TypeRefs.{is_non_null, named_type}
 use Rattle.schema_defaults.specs.Fits.{takes_any}
 use Rattle.execution_model.specs.Values.{Pairs, null_value, list_value, object_value}
@@ -56,19 +55,23 @@ as_list items = as_given (option_map list_value items)
 
 -- ---- objects
 
--- the value of a default at its type
-abbrev pub Fill : Type 0
-Fill = Literal → TypeRef → Option Value
+-- The values of the defaults of input fields: by the name of the type, and then by the name of the field.
+abbrev pub Defaults : Type 0
+Defaults = List (List ℕ × Pairs)
 
--- where nothing stands: the default, or else nothing, which a Non-Null type doesn't take
-abbrev pub default_of : Fill → InputValue → Given
-default_of fill input =
-    option_map_or (λ literal. as_given (fill literal input.input_type.type_ref)) input.default (cond (is_non_null input.input_type.type_ref) Refused Absent)
+-- the values of the defaults of one type's fields
+abbrev pub defaults_of : Defaults → List ℕ → Pairs
+defaults_of defaults type = unwrap_or (entry defaults type) []
+
+-- where nothing stands: the default's value, or else nothing, which a Non-Null type doesn't take
+abbrev pub default_given : InputValue → Option Value → Given
+default_given input (Some value) = Is value
+default_given input None = cond (is_non_null input.input_type.type_ref) Refused Absent
 
 -- what is given, or the default
-abbrev pub or_default : Fill → InputValue → Given → Given
-or_default fill input Absent = default_of fill input
-or_default fill input given = given
+abbrev pub or_default : InputValue → Option Value → Given → Given
+or_default input value Absent = default_given input value
+or_default input value given = given
 
 -- one member more, unless it is absent
 abbrev pub with_member : List ℕ → Given → Option Pairs → Option Pairs
@@ -80,21 +83,26 @@ with_member name (Is value) more = option_map (λ members. (name, value) ∷ mem
 abbrev pub given_of : List MemberMeaning → List ℕ × InputValue → Given
 given_of members field = option_map_or (λ meaning. meaning (Some field.1.input_type.type_ref)) (entry members field.0) Absent
 
--- the members of an input object with these fields
-abbrev pub input_members : Fill → List MemberMeaning → List (List ℕ × InputValue) → Option Pairs
-input_members fill members [] = Some []
-input_members fill members (field ∷ fields) = with_member field.0 (or_default fill field.1 (given_of members field)) (input_members fill members fields)
+-- the members of an input object with these fields, whose defaults have these values
+abbrev pub input_members : Pairs → List MemberMeaning → List (List ℕ × InputValue) → Option Pairs
+input_members values members [] = Some []
+input_members values members (field ∷ fields) =
+    with_member field.0 (or_default field.1 (entry values field.0) (given_of members field)) (input_members values members fields)
 
 -- the members of an object inside a value for a custom scalar, as they stand
 abbrev pub members_as_given : List MemberMeaning → Option Pairs
 members_as_given [] = Some []
 members_as_given (member ∷ members) = with_member member.0 (member.1 None) (members_as_given members)
 
+-- the object of these members; no name stands twice in an object that validation or JSON lets through, and of two the first counts
+abbrev pub object_of : Pairs → Value
+object_of members = object_value (tabled members)
+
 abbrev pub as_object : Option Pairs → Given
-as_object members = as_given (option_map object_value members)
+as_object members = as_given (option_map object_of members)
 
 abbrev pub as_object_in : TypeRef → Option Pairs → Given
-as_object_in type members = as_given (option_map (λ ms. in_lists type (object_value ms)) members)
+as_object_in type members = as_given (option_map (λ ms. in_lists type (object_of ms)) members)
 
 -- the fields of the input object type of a name; other types have none
 abbrev pub input_fields_named : Schema → List ℕ → Option (List (List ℕ × InputValue))

@@ -1,5 +1,5 @@
 -- Steps of following: a level deeper, and a selection further.
-use Rattle.std.proofs.Common.{◌≡◌, ℕ, zero, suc, ◌+◌, ◌-◌, ◌<◌, List, ◌∷◌, length, drop, get_or, ap, sym, ◌∙◌, arith}
+use Rattle.std.proofs.Common.{◌≡◌, ℕ, zero, suc, ◌+◌, ◌-◌, ◌<◌, List, length, drop, get_or, ap, sym, ◌∙◌, arith}
 use Rattle.gql_model.specs.declared.selection.Selection.{Selection}
 use Rattle.check_model.proofs.ListLaws.{next_left}
 use Rattle.execution_model.specs.Collection.{Context, Collecting, follow_set, followed_within, through}

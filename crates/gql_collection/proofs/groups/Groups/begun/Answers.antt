@@ -1,9 +1,9 @@
-use Rattle.std.proofs.Common.{◌≡◌, ap, sym, ◌∙◌, length, cond}
+use Rattle.std.proofs.Common.{ap, sym, ◌∙◌, length, cond}
 use Rattle.std.specs.Prelude.{Some}
 use Rattle.std.specs.Ordering.{is_eq}
 use Rattle.std.specs.BTreeMap.{get}
 use Rattle.text_types.specs.Texts.{text_cmp}
-use Rattle.execution_model.specs.Collection.{group_place, begun}
+use Rattle.execution_model.specs.Collection.{group_place}
 use Rattle.gql_collection.proofs.GroupLaws.{place_begun}
 use Rattle.gql_collection.proofs.groups.Groups.begun.Goals as goal
 

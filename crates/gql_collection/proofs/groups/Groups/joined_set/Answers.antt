@@ -1,4 +1,4 @@
-use Rattle.std.proofs.Common.{◌≡◌, ap, sym, ◌∙◌}
+use Rattle.std.proofs.Common.{ap, sym, ◌∙◌}
 use Rattle.execution_model.specs.Collection.{group_place}
 use Rattle.gql_collection.proofs.GroupLaws.{place_joined}
 use Rattle.gql_collection.proofs.groups.Groups.joined_set.Goals as goal
