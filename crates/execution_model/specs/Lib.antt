@@ -1,0 +1,12 @@
+pub mod Values
+pub mod Scalars
+pub mod Literals
+pub mod Inputs
+pub mod Defaults
+pub mod Offers
+pub mod Variables
+pub mod Arguments
+pub mod Conditions
+pub mod Fronts
+pub mod Collection
+pub mod Asked

@@ -1,0 +1,2 @@
+mod FollowLaws
+mod GroupLaws

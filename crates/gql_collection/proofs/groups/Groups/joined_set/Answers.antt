@@ -1,0 +1,12 @@
+use Rattle.std.proofs.Common.{ap, sym, ◌∙◌}
+use Rattle.execution_model.specs.Collection.{group_place}
+use Rattle.gql_collection.proofs.GroupLaws.{place_joined}
+use Rattle.gql_collection.proofs.groups.Groups.joined_set.Goals as goal
+
+pub invariant_of-result : goal.invariant_of-result
+invariant_of-result c = record {
+  placed = λ name.
+      c.args.self.placed name
+      ∙ sym (place_joined name c.args.self.groups c.args.at c.args.set)
+      ∙ sym (ap (group_place name) c.in_ok-groups.ensures);
+}
