@@ -1,2 +1,7 @@
+mod ConflictLaws
+mod ExpandLaws
+mod PathLaws
 mod RootLaws
+mod RowLaws
+mod SameLaws
 mod WeightLaws

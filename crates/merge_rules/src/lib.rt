@@ -4,7 +4,15 @@
 //! Each function answers for one rule of `check_model`, over the whole document.
 #![tactic(auto)]
 
+mod conflicts;
+mod expand;
 mod keys;
+mod kin;
+mod merging;
 mod roots;
+mod rows;
+mod same;
+mod shapes;
 
+pub use merging::breaks_field_merging;
 pub use roots::breaks_single_root_field;
