@@ -1,5 +1,5 @@
 -- Which rules on uses are broken, definition by definition.
-use Rattle.std.proofs.Common.{◌≡◌, ℕ, ◌+◌, ◌<◌, List, [], ◌∷◌, length, drop, get_or, refl, ap, sym, ◌∙◌, Bool, true, false, ◌||◌}
+use Rattle.std.proofs.Common.{◌≡◌, ℕ, ◌+◌, ◌<◌, List, [], length, drop, get_or, refl, ap, sym, ◌∙◌, Bool, true, false, ◌||◌}
 use Rattle.std.specs.List.{enumerate_from}
 use Rattle.gql_model.specs.declared.executable.Operation.{Operation}
 use Rattle.gql_model.specs.declared.document.Definition.{Definition}

@@ -1,8 +1,8 @@
 -- A set of names, and one name more.
 use Rattle.std.proofs.Common.{◌≡◌, ℕ, List, refl, ap, sym, ◌∙◌, Bool, true, false, cond, ◌||◌}
 use Rattle.std.specs.List.{list_any}
-use Rattle.std.specs.Ordering.{eq_by_cmp, is_eq}
-use Rattle.std.specs.Cmp.{eq_by_cmp_equiv, IsEquivalence, Equal-is}
+use Rattle.std.specs.Ordering.{eq_by_cmp}
+use Rattle.std.specs.Cmp.{eq_by_cmp_equiv, Equal-is}
 use Rattle.std.specs.Cmp.Lexicographic.{nat_list_cmp_total}
 use Rattle.std.specs.BTreeMap.{is_at}
 use Rattle.std.specs.FinSet as set
@@ -18,10 +18,10 @@ pub put_in : (ks ls : List (List ℕ)) (name : List ℕ)
     → set.from_list {R = text_cmp} ls ≡ set.insert (set.from_list ks) name
 put_in ks ls name is =
     set.same_set nat_list_cmp_total (set.slice_cmp-IsAntisymmetric set.nat_cmp-IsAntisymmetric) _ _ (λ q.
-        set.contains-from_list nat_list_cmp_total ls q ∙ is q ∙ either (is_at (text_cmp name) q) (list_any (is_at (text_cmp q)) ks)
-        ∙ ap (λ b. b || list_any (is_at (text_cmp q)) ks) ((eq_by_cmp_equiv nat_list_cmp_total).symm name q)
-        ∙ sym (set.contains-insert nat_list_cmp_total (set.from_list ks) name q
-            ∙ ap (λ b. eq_by_cmp text_cmp q name || b) (set.contains-from_list nat_list_cmp_total ks q)))
+    set.contains-from_list nat_list_cmp_total ls q ∙ is q ∙ either (is_at (text_cmp name) q) (list_any (is_at (text_cmp q)) ks)
+    ∙ ap (λ b. b || list_any (is_at (text_cmp q)) ks) ((eq_by_cmp_equiv nat_list_cmp_total).symm name q)
+    ∙ sym (set.contains-insert nat_list_cmp_total (set.from_list ks) name q
+    ∙ ap (λ b. eq_by_cmp text_cmp q name || b) (set.contains-from_list nat_list_cmp_total ks q)))
 
 there : (s : set.FinSet text_cmp) (name q : List ℕ) → set.contains s name ≡ true → (b : Bool) → eq_by_cmp text_cmp q name ≡ b
     → set.contains s q ≡ (b || set.contains s q)
@@ -33,5 +33,5 @@ pub known_in : (ks : List (List ℕ)) (name : List ℕ) → list_any (is_at (tex
     → set.from_list {R = text_cmp} ks ≡ set.insert (set.from_list ks) name
 known_in ks name known =
     set.same_set nat_list_cmp_total (set.slice_cmp-IsAntisymmetric set.nat_cmp-IsAntisymmetric) _ _ (λ q.
-        there (set.from_list ks) name q (set.contains-from_list nat_list_cmp_total ks name ∙ known) (eq_by_cmp text_cmp q name) refl
-        ∙ sym (set.contains-insert nat_list_cmp_total (set.from_list ks) name q))
+    there (set.from_list ks) name q (set.contains-from_list nat_list_cmp_total ks name ∙ known) (eq_by_cmp text_cmp q name) refl
+    ∙ sym (set.contains-insert nat_list_cmp_total (set.from_list ks) name q))

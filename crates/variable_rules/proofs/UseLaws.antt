@@ -1,7 +1,7 @@
 -- What is known once the uses of a list of sites are noted.
-use Rattle.std.proofs.Common.{◌≡◌, ℕ, suc, ◌+◌, ◌<◌, ◌≤◌, List, [], ◌∷◌, ◌++◌, map, length, drop, get_or, refl, ap, sym, ◌∙◌, arith, append_assoc, Bool, true, false, ◌||◌, cond, bytes_eq, ltb}
-use Rattle.std.specs.Prelude.{not, is_none, Option}
-use Rattle.std.specs.List.{fold, flat_map, list_any, items_where_true}
+use Rattle.std.proofs.Common.{◌≡◌, ℕ, List, [], ◌∷◌, ◌++◌, refl, ap, sym, ◌∙◌, Bool, true, false, ◌||◌, bytes_eq}
+use Rattle.std.specs.Prelude.{not, is_none}
+use Rattle.std.specs.List.{fold, flat_map, list_any}
 use Rattle.std.specs.Ordering.{eq_by_cmp}
 use Rattle.std.specs.Cmp.Lexicographic.{nat_list_cmp_total}
 use Rattle.std.specs.FinSet as set
@@ -9,14 +9,13 @@ use Rattle.std.proofs.lemmas.Map.Text.{is_eq-slice_cmp}
 use Rattle.std.proofs.lemmas.Grind.{flat_map-append}
 use Rattle.text_types.specs.Texts.{text_cmp}
 use Rattle.gql_model.specs.declared.executable.Operation.{Operation}
-use Rattle.gql_model.specs.declared.executable.VariableDefinition.{VariableDefinition}
 use Rattle.gql_model.specs.declared.document.Definition.{Definition}
 use Rattle.gql_model.specs.declared.document.Document.{Document}
 use Rattle.gql_model.specs.Documents.{of_operation}
 use Rattle.schema_model.specs.declared.schema.Schema.{Schema}
 use Rattle.check_model.proofs.ListLaws.{any_congr}
-use Rattle.check_model.specs.Sites.{Site, Sites, definition_sites}
-use Rattle.check_model.specs.Usages.{At, Usage, Usages, site_usages, definition_usages, followed_usages}
+use Rattle.check_model.specs.Sites.{Sites, definition_sites}
+use Rattle.check_model.specs.Usages.{Usages, site_usages, definition_usages, followed_usages}
 use Rattle.check_model.specs.Spreads.{definitions_reached}
 use Rattle.check_model.specs.VariableRules.{variable_named, is_undeclared, is_unused, is_disallowed}
 use Rattle.site_walk.proofs.WalkLaws.{fold_found, fold_joined}
@@ -71,8 +70,8 @@ used_law : (s : Schema) (o : Operation) (u w : Uses) (us : Usages) → IsStart s
     → (q : List ℕ) → set.contains w.used q ≡ list_any (λ x. bytes_eq q x.name) us
 used_law s o u w us start is q =
     fold_found noted u w us is (λ v. set.contains v.used q) (λ v x. eq_by_cmp text_cmp q x.name)
-        (λ v x. set.contains-insert nat_list_cmp_total v.used x.name q ∙ or_comm (eq_by_cmp text_cmp q x.name) (set.contains v.used q))
-        (λ v x. refl)
+    (λ v x. set.contains-insert nat_list_cmp_total v.used x.name q ∙ or_comm (eq_by_cmp text_cmp q x.name) (set.contains v.used q))
+    (λ v x. refl)
     ∙ ap (λ n. set.contains n q || list_any (λ x. eq_by_cmp text_cmp q x.name) us) start.none_used
     ∙ ap (λ b. b || list_any (λ x. eq_by_cmp text_cmp q x.name) us) (set.contains-empty text_cmp q)
     ∙ any_congr (λ x. eq_by_cmp text_cmp q x.name) (λ x. bytes_eq q x.name) us (λ x. is_eq-slice_cmp q x.name)

@@ -35,10 +35,7 @@ impl<'a> Declared<'a> {
     }
 }
 
-fn places(
-    alloc: Global,
-    variables: &[VariableDefinition],
-) -> Result<BTreeMap<Text, usize>, Memory>
+fn places(alloc: Global, variables: &[VariableDefinition]) -> Result<BTreeMap<Text, usize>, Memory>
     ensures { IfOk result (λ places. IsIndex places (map (λ v. v.name.text) variables.now)) }
 {
     let mut places = nowhere(alloc);

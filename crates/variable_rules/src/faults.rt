@@ -53,11 +53,7 @@ impl UseFaults {
 
 /// Which of the rules on the uses of variables the operations of the document break, spreads followed, by
 /// the graph of spreads.
-pub fn use_faults(
-    alloc: Global,
-    scope: &Scope<'_>,
-    graph: &Digraph,
-) -> Result<UseFaults, Memory>
+pub fn use_faults(alloc: Global, scope: &Scope<'_>, graph: &Digraph) -> Result<UseFaults, Memory>
     requires { graph.now ≡ spread_graph scope.now.document.now }
     ensures undeclared { IfOk result (λ f. f.undeclared ≡ breaks_variable_uses_defined scope.now.schema.now scope.now.document.now) }
     ensures unused { IfOk result (λ f. f.unused ≡ breaks_variables_used scope.now.schema.now scope.now.document.now) }
@@ -66,11 +62,7 @@ pub fn use_faults(
     document_faults(alloc, scope, graph)
 }
 
-fn document_faults(
-    alloc: Global,
-    scope: &Scope<'_>,
-    graph: &Digraph,
-) -> Result<UseFaults, Memory>
+fn document_faults(alloc: Global, scope: &Scope<'_>, graph: &Digraph) -> Result<UseFaults, Memory>
     requires { graph.now ≡ spread_graph scope.now.document.now }
     ensures { IfOk result (λ f. f ≡ faults_of scope.now.schema.now scope.now.document.now) }
 {

@@ -1,4 +1,4 @@
-use Rattle.std.proofs.Common.{sym, ◌∙◌}
+use Rattle.std.proofs.Common.{◌∙◌}
 use Rattle.variable_rules.proofs.FaultLaws.{no_operation}
 use Rattle.variable_rules.proofs.faults.definition_faults.Goals as goal
 

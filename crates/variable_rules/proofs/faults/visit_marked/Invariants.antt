@@ -8,4 +8,4 @@ abbrev pub invariant-definitions : goal.invariant-definitions
 invariant-definitions l =
     fold note_site l.initial.uses (flat_map (definition_sites l.scope.schema.now l.scope.document.now) (items_where_true l.marks l.definitions))
     ≡ fold note_site l.uses
-        (flat_map (definition_sites l.scope.schema.now l.scope.document.now) (items_where_true (drop l.place l.marks) (drop l.place l.definitions)))
+    (flat_map (definition_sites l.scope.schema.now l.scope.document.now) (items_where_true (drop l.place l.marks) (drop l.place l.definitions)))

@@ -8,9 +8,9 @@ pub returns-in-Some : goal.returns-in-Some
 returns-in-Some c =
     c.get-in-Some.ensures.value
     ∙ found_by_place (λ (v : VariableDefinition). v.name.text) c.args.name.now c.args.self.now.operation.now.variables (Some c.in-Some.place)
-        (sym c.in-Some.is ∙ c.copied.ensures ∙ c.get.ensures.value ∙ c.args.self.now.is c.args.name.now)
+    (sym c.in-Some.is ∙ c.copied.ensures ∙ c.get.ensures.value ∙ c.args.self.now.is c.args.name.now)
 
 pub returns-in-None : goal.returns-in-None
 returns-in-None c =
     found_by_place (λ (v : VariableDefinition). v.name.text) c.args.name.now c.args.self.now.operation.now.variables None
-        (sym c.in-None.is ∙ c.copied.ensures ∙ c.get.ensures.value ∙ c.args.self.now.is c.args.name.now)
+    (sym c.in-None.is ∙ c.copied.ensures ∙ c.get.ensures.value ∙ c.args.self.now.is c.args.name.now)

@@ -14,6 +14,6 @@ returns-then-contains c =
 pub returns : goal.returns
 returns c =
     put_in _ _ c.args.name.now (λ q.
-        c.in_ok-insert.ensures.updates.0 q
-        ∙ ap (λ n. cond (is_at (text_cmp n) q) true (contains text_cmp c.self.inside.names q)) c.in_ok-copy.ensures)
+    c.in_ok-insert.ensures.updates.0 q
+    ∙ ap (λ n. cond (is_at (text_cmp n) q) true (contains text_cmp c.self.inside.names q)) c.in_ok-copy.ensures)
     ∙ ap (λ s. set.insert s c.args.name.now) c.self.view_is

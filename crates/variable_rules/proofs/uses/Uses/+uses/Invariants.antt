@@ -15,4 +15,4 @@ abbrev pub invariant-note_fields-fields : goal.invariant-note_fields-fields
 invariant-note_fields-fields l =
     fold noted l.initial.self (flat_map (λ (f : FieldUsages). f.1 (wanted_at (fields_of (option_copied l.defined)) f.0)) (map (usages_in_field l.schema) l.fields))
     ≡ fold noted l.self
-        (flat_map (λ (f : FieldUsages). f.1 (wanted_at (fields_of (option_copied l.defined)) f.0)) (map (usages_in_field l.schema) (drop l.field-index l.fields)))
+    (flat_map (λ (f : FieldUsages). f.1 (wanted_at (fields_of (option_copied l.defined)) f.0)) (map (usages_in_field l.schema) (drop l.field-index l.fields)))

@@ -1,0 +1,2 @@
+mod RootLaws
+mod WeightLaws

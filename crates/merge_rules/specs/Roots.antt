@@ -1,0 +1,48 @@
+-- The first root field of a list, and whether all have its response key.
+use Rattle.std.specs.Prelude.{Bool, true, false, ◌&&◌, not, Option, Some, None, bytes_eq}
+use Rattle.std.specs.Option.{option_map, option_map_or}
+use Rattle.gql_model.specs.declared.selection.Field.{Field}
+use Rattle.gql_model.specs.declared.selection.InlineFragment.{InlineFragment}
+use Rattle.gql_model.specs.declared.selection.Selection.{Selection}
+use Rattle.gql_model.specs.declared.selection.Selection.TheFolds.{fold-Selection, fold-Field, fold-InlineFragment}
+use Rattle.schema_model.specs.declared.schema.Schema.{Schema}
+use Rattle.schema_model.specs.declared.schema.TypeId.{TypeId}
+use Rattle.check_model.specs.FieldTypes.{is_typename}
+use Rattle.check_model.specs.Followed.{Follow}
+use Rattle.check_model.specs.RootFields.{RootField, RootFields, field_root, selection_root, inline_root, set_root}
+use Rattle.merge_rules.specs.declared.roots.RootKeys.{RootKeys}
+
+abbrev pub Keys : Type 0
+Keys = Option RootField × Bool
+
+abbrev pub keys_of : RootKeys → Keys
+keys_of keys = (option_map (λ f. (f.key.now, f.name.now)) keys.first, keys.same)
+
+abbrev pub start : Keys
+start = (None, true)
+
+abbrev pub noted_behind : Option RootField → Bool → RootField → Keys
+noted_behind None same field = (Some field, same)
+noted_behind (Some first) same field = (Some first, same && bytes_eq first.0 field.0)
+
+-- one field more
+abbrev pub noted : Keys → RootField → Keys
+noted keys field = noted_behind keys.0 keys.1 field
+
+-- there is one response key, and its first field isn't `__typename`
+abbrev pub is_one : Keys → Bool
+is_one keys = option_map_or (λ first. keys.1 && not (is_typename first.1)) keys.0 false
+
+-- ---- the root fields of each part of a set
+
+abbrev pub root_fields_of_selection : Schema → TypeId → Follow RootFields → Selection → RootFields
+root_fields_of_selection schema object follow =
+    fold-Selection RootFields RootFields RootFields RootFields (selection_root follow) field_root (inline_root schema object) set_root
+
+abbrev pub root_fields_of_field : Schema → TypeId → Follow RootFields → Field → RootFields
+root_fields_of_field schema object follow =
+    fold-Field RootFields RootFields RootFields RootFields (selection_root follow) field_root (inline_root schema object) set_root
+
+abbrev pub root_fields_of_inline : Schema → TypeId → Follow RootFields → InlineFragment → RootFields
+root_fields_of_inline schema object follow =
+    fold-InlineFragment RootFields RootFields RootFields RootFields (selection_root follow) field_root (inline_root schema object) set_root
