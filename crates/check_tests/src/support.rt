@@ -12,14 +12,11 @@ use text_types::{Memory, Text};
 pub(crate) const SCHEMA: &[u8] = b"
 type Query {
   me: User todo(id: ID!): Todo todos: [Todo!]! node(id: ID! = 1): Node any: Any
-  find(p: P, j: JSON, n: [[Int]]): User
 }
 type Mutation { setDone(id: ID!, done: Boolean!): Todo }
 interface Node { id: ID! }
 interface Lonely { id: ID! }
 union Any = User | Todo
-scalar JSON
-input P { x: Int y: [Int!] = [1] z: P }
 type User implements Node { id: ID! name: String! nick: String }
 type Todo implements Node { id: ID! text: String! done: Boolean! author: User }
 directive @tag(name: String!) repeatable on FIELD
