@@ -11,7 +11,6 @@ use Rattle.schema_rules.specs.TypeRefs.{is_non_null, named_type}
 use Rattle.schema_defaults.specs.Fits.{takes_any}
 use Rattle.execution_model.specs.Values.{Pairs, null_value, list_value, object_value}
 use Rattle.execution_model.specs.Scalars.{Wanted, in_lists}
-
 -- what stands at a place: nothing, something that the place doesn't take, or a value
 pub use Rattle.execution_model.specs.declared.given.Given.{Given}
 pub use Rattle.execution_model.specs.declared.given.Given.TheVariants.{Absent, Refused, Is}
