@@ -1,22 +1,19 @@
 -- Input objects (GraphQL October 2021, 3.10, Input Coercion): members in the order of the type's fields.
-use Rattle.std.specs.Prelude.{ℕ, List, [], ◌∷◌, Option, Some, None, cond}
-use Rattle.std.specs.Option.{option_map, option_map_or, option_and_then, unwrap_or}
+use Rattle.std.specs.Prelude.{ℕ, List, [], ◌∷◌, Option, Some, None, cond, ◌++◌, map}
+use Rattle.std.specs.Option.{option_map, option_map_or, option_and_then}
 use Rattle.gql_model.specs.declared.type_ref.TypeRef.{TypeRef}
 use Rattle.gql_value.specs.declared.value.Value.{Value}
 use Rattle.schema_model.specs.declared.schema.Schema.{Schema}
 use Rattle.schema_model.specs.declared.schema.InputValue.{InputValue}
 use Rattle.schema_model.specs.Schemas.{input_fields_in}
-use Rattle.schema_model.specs.Tables.{entry, tabled}
+use Rattle.schema_model.specs.Tables.{entry, put}
 use Rattle.schema_rules.specs.TypeRefs.{is_non_null, named_type}
 use Rattle.schema_defaults.specs.Fits.{takes_any}
 use Rattle.execution_model.specs.Values.{Pairs, null_value, list_value, object_value}
 use Rattle.execution_model.specs.Scalars.{Wanted, in_lists}
-
 -- what stands at a place: nothing, something that the place doesn't take, or a value
-pub data Given : Type 0 where
-  Absent : Given
-  Refused : Given
-  Is : Value → Given
+pub use Rattle.execution_model.specs.declared.given.Given.{Given}
+pub use Rattle.execution_model.specs.declared.given.Given.TheVariants.{Absent, Refused, Is}
 
 abbrev pub as_given : Option Value → Given
 as_given None = Refused
@@ -46,9 +43,13 @@ item_value (Is value) = Some value
 abbrev pub item_at : Wanted → Meaning → Option Value
 item_at wanted item = item_value (item wanted)
 
+-- the values so far, and those of the items that are left
+abbrev pub items_into : Wanted → List Value → List Meaning → Option (List Value)
+items_into wanted values [] = Some values
+items_into wanted values (item ∷ items) = option_and_then (λ value. items_into wanted (values ++ value ∷ []) items) (item_at wanted item)
+
 abbrev pub items_at : Wanted → List Meaning → Option (List Value)
-items_at wanted [] = Some []
-items_at wanted (item ∷ items) = option_and_then (λ first. option_map (λ more. first ∷ more) (items_at wanted items)) (item_at wanted item)
+items_at wanted items = items_into wanted [] items
 
 abbrev pub as_list : Option (List Value) → Given
 as_list items = as_given (option_map list_value items)
@@ -58,10 +59,6 @@ as_list items = as_given (option_map list_value items)
 -- The values of the defaults of input fields: by the name of the type, and then by the name of the field.
 abbrev pub Defaults : Type 0
 Defaults = List (List ℕ × Pairs)
-
--- the values of the defaults of one type's fields
-abbrev pub defaults_of : Defaults → List ℕ → Pairs
-defaults_of defaults type = unwrap_or (entry defaults type) []
 
 -- where nothing stands: the default's value, or else nothing, which a Non-Null type doesn't take
 abbrev pub default_given : InputValue → Option Value → Given
@@ -73,36 +70,44 @@ abbrev pub or_default : InputValue → Option Value → Given → Given
 or_default input value Absent = default_given input value
 or_default input value given = given
 
--- one member more, unless it is absent
-abbrev pub with_member : List ℕ → Given → Option Pairs → Option Pairs
-with_member name Absent more = more
-with_member name Refused more = None
-with_member name (Is value) more = option_map (λ members. (name, value) ∷ members) more
+-- the members so far with one more, unless it is absent; of two with one name the first counts, though neither JSON nor validation lets a second through
+abbrev pub next_members : List ℕ → Given → Pairs → Option Pairs
+next_members name Absent members = Some members
+next_members name Refused members = None
+next_members name (Is value) members = Some (put members (name, value))
+
+-- the members so far, and those that are left
+abbrev pub members_into : Pairs → List (List ℕ × Given) → Option Pairs
+members_into members [] = Some members
+members_into members (m ∷ more) = option_and_then (λ next. members_into next more) (next_members m.0 m.1 members)
 
 -- what is given of an input field
 abbrev pub given_of : List MemberMeaning → List ℕ × InputValue → Given
 given_of members field = option_map_or (λ meaning. meaning (Some field.1.input_type.type_ref)) (entry members field.0) Absent
 
+-- the value of the default of a field, where the defaults of its type's fields have these values
+abbrev pub default_in : Option Pairs → List ℕ → Option Value
+default_in values field = option_and_then (λ v. entry v field) values
+
+abbrev pub field_member : Option Pairs → List MemberMeaning → List ℕ × InputValue → List ℕ × Given
+field_member values members field = (field.0, or_default field.1 (default_in values field.0) (given_of members field))
+
 -- the members of an input object with these fields, whose defaults have these values
-abbrev pub input_members : Pairs → List MemberMeaning → List (List ℕ × InputValue) → Option Pairs
-input_members values members [] = Some []
-input_members values members (field ∷ fields) =
-    with_member field.0 (or_default field.1 (entry values field.0) (given_of members field)) (input_members values members fields)
+abbrev pub input_members : Option Pairs → List MemberMeaning → List (List ℕ × InputValue) → Option Pairs
+input_members values members fields = members_into [] (map (field_member values members) fields)
+
+abbrev pub free_member : MemberMeaning → List ℕ × Given
+free_member member = (member.0, member.1 None)
 
 -- the members of an object inside a value for a custom scalar, as they stand
 abbrev pub members_as_given : List MemberMeaning → Option Pairs
-members_as_given [] = Some []
-members_as_given (member ∷ members) = with_member member.0 (member.1 None) (members_as_given members)
-
--- the object of these members; no name stands twice in an object that validation or JSON lets through, and of two the first counts
-abbrev pub object_of : Pairs → Value
-object_of members = object_value (tabled members)
+members_as_given members = members_into [] (map free_member members)
 
 abbrev pub as_object : Option Pairs → Given
-as_object members = as_given (option_map object_of members)
+as_object members = as_given (option_map object_value members)
 
 abbrev pub as_object_in : TypeRef → Option Pairs → Given
-as_object_in type members = as_given (option_map (λ ms. in_lists type (object_of ms)) members)
+as_object_in type members = as_given (option_map (λ ms. in_lists type (object_value ms)) members)
 
 -- the fields of the input object type of a name; other types have none
 abbrev pub input_fields_named : Schema → List ℕ → Option (List (List ℕ × InputValue))

@@ -14,7 +14,7 @@ use Rattle.schema_rules.specs.TypeRefs.{named_type}
 use Rattle.schema_defaults.specs.Fits.{takes_any}
 use Rattle.execution_model.specs.Values.{Pairs}
 use Rattle.execution_model.specs.Scalars.{integer_at, boolean_at, string_at, name_at}
-use Rattle.execution_model.specs.Inputs.{Given, Absent, Refused, Is, as_given, Meaning, MemberMeaning, null_at, items_at, as_list, Defaults, defaults_of, input_fields_named, input_members, members_as_given, as_object, as_object_in, free_object}
+use Rattle.execution_model.specs.Inputs.{Given, Absent, Refused, Is, as_given, Meaning, MemberMeaning, null_at, items_at, as_list, Defaults, input_fields_named, input_members, members_as_given, as_object, as_object_in, free_object}
 
 -- a variable as its value, which isn't coerced again
 abbrev pub variable_given : Pairs → List ℕ → Given
@@ -32,7 +32,7 @@ list_at schema items (Some type) = list_in schema items (out-TypeRef type)
 -- an object at an input object type, or as it stands at a custom scalar
 abbrev pub object_in : Defaults → Schema → List MemberMeaning → TypeRef → Given
 object_in defaults schema members type =
-    option_map_or (λ fields. as_object_in type (input_members (defaults_of defaults (named_type type)) members fields)) (input_fields_named schema (named_type type)) (free_object schema members type)
+    option_map_or (λ fields. as_object_in type (input_members (entry defaults (named_type type)) members fields)) (input_fields_named schema (named_type type)) (free_object schema members type)
 
 abbrev pub object_at : Defaults → Schema → List MemberMeaning → Meaning
 object_at defaults schema members None = as_object (members_as_given members)

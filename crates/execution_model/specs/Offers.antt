@@ -1,5 +1,5 @@
 -- What values that a client gives become at a type (GraphQL October 2021, 3.5 to 3.12, Input Coercion).
-use Rattle.std.specs.Prelude.{ℕ, Bool, List, Some, None, cond, is_some}
+use Rattle.std.specs.Prelude.{ℕ, Bool, List, Some, None, cond, is_some, Option}
 use Rattle.std.specs.List.{list_all}
 use Rattle.std.specs.Option.{option_map_or}
 use Rattle.gql_model.specs.declared.type_ref.TypeRef.{TypeRef}
@@ -11,20 +11,20 @@ use Rattle.schema_model.specs.Tables.{entry}
 use Rattle.schema_rules.specs.TypeRefs.{named_type}
 use Rattle.execution_model.specs.Scalars.{integer_at, boolean_at, text_at}
 use Rattle.execution_model.specs.Values.{Pairs}
-use Rattle.execution_model.specs.Inputs.{Given, Refused, as_given, Meaning, MemberMeaning, null_at, Defaults, defaults_of, input_fields_named, input_members, members_as_given, as_object, as_object_in, free_object}
+use Rattle.execution_model.specs.Inputs.{Given, Refused, as_given, Meaning, MemberMeaning, null_at, Defaults, input_fields_named, input_members, members_as_given, as_object, as_object_in, free_object}
 use Rattle.execution_model.specs.Literals.{list_at}
 
 -- an object has known members only
 abbrev pub are_known : List (List ℕ × InputValue) → List MemberMeaning → Bool
 are_known fields members = list_all (λ m. is_some (entry fields m.0)) members
 
-abbrev pub known_members : Pairs → List MemberMeaning → List (List ℕ × InputValue) → TypeRef → Given
+abbrev pub known_members : Option Pairs → List MemberMeaning → List (List ℕ × InputValue) → TypeRef → Given
 known_members values members fields type = cond (are_known fields members) (as_object_in type (input_members values members fields)) Refused
 
 -- an object at an input object type, or as it stands at a custom scalar
 abbrev pub object_in : Defaults → Schema → List MemberMeaning → TypeRef → Given
 object_in defaults schema members type =
-    option_map_or (λ fields. known_members (defaults_of defaults (named_type type)) members fields type) (input_fields_named schema (named_type type)) (free_object schema members type)
+    option_map_or (λ fields. known_members (entry defaults (named_type type)) members fields type) (input_fields_named schema (named_type type)) (free_object schema members type)
 
 abbrev pub object_at : Defaults → Schema → List MemberMeaning → Meaning
 object_at defaults schema members None = as_object (members_as_given members)

@@ -20,17 +20,23 @@ Wanted = Option TypeRef
 abbrev pub Coercing : Type 0
 Coercing = Wanted → Option Value
 
+abbrev pub list_of_one : Value → Value
+list_of_one value = list_value (value ∷ [])
+
 abbrev pub list_level : TypeRef-F (Value → Value) → Value → Value
 list_level (TypeRef-F.Named name required) value = value
-list_level (TypeRef-F.List inner required) value = list_value (inner value ∷ [])
+list_level (TypeRef-F.List inner required) value = list_of_one (inner value)
 
 -- a value in as many lists of one as the type has lists
 abbrev pub in_lists : TypeRef → Value → Value
 in_lists = fold-TypeRef (Value → Value) list_level
 
 -- a value that the named type under all lists takes, or doesn't
+abbrev pub value_if : Bool → TypeRef → Value → Option Value
+value_if takes type value = cond takes (Some (in_lists type value)) None
+
 abbrev pub taken : (List ℕ → Bool) → (List ℕ → Value) → TypeRef → Option Value
-taken takes value type = cond (takes (named_type type)) (Some (in_lists type (value (named_type type)))) None
+taken takes value type = value_if (takes (named_type type)) type (value (named_type type))
 
 abbrev pub taken_at : (List ℕ → Bool) → (List ℕ → Value) → Value → Coercing
 taken_at takes value itself None = Some itself
