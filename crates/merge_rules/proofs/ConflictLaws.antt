@@ -19,10 +19,13 @@ use Rattle.merge_rules.specs.Rows.{above_path, above_parents, field_of_row, Stan
 
 there_is : {X : Type 0} (xs : List X) (i : ℕ) → i < length xs → (x : X) × ((slice_get xs i ≡ Some x) × (drop i xs ≡ x ∷ drop (i + 1) xs))
 there_is [] i within = absurd (omega arith)
-there_is (x ∷ xs) i within =
-    (get_or (x ∷ xs) i x,
-        (slice_get-get_or (x ∷ xs) i x within,
-        drop-cons (x ∷ xs) i x within ∙ ap (λ n. get_or (x ∷ xs) i x ∷ drop n (x ∷ xs)) (sym (add-one i))))
+there_is (x ∷ xs) i within = (
+  get_or (x ∷ xs) i x,
+  (
+    slice_get-get_or (x ∷ xs) i x within,
+    drop-cons (x ∷ xs) i x within ∙ ap (λ n. get_or (x ∷ xs) i x ∷ drop n (x ∷ xs)) (sym (add-one i)),
+  ),
+)
 
 or_true : (b : Bool) → (true || b) ≡ true
 or_true b = refl

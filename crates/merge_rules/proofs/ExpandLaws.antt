@@ -76,15 +76,15 @@ follow_step (suc n) none meaning d name f some is =
 field_at : (s : Schema) (follow : Follow PlacedFields) (p : Field-F Selection Field InlineFragment SelectionSet) (o : Option SelectionSet) (parent : Parent)
     → field_fields s (map-Field _ _ _ _ _ _ _ _ (fields_of_selection s follow) (fields_of_field s follow) (fields_of_inline s follow) (fields_of_set s follow) (record p { selection_set = o })) parent
     ≡ own_field s (response_key p.alias p.name.text) p.name.text p.arguments parent
-        ∷ map (beneath (response_key p.alias p.name.text) parent) (fields_below (option_map (fields_of_set s follow) o) (field_parent s parent p.name.text))
+    ∷ map (beneath (response_key p.alias p.name.text) parent) (fields_below (option_map (fields_of_set s follow) o) (field_parent s parent p.name.text))
 field_at s follow p None parent = refl
 field_at s follow p (Some set) parent = refl
 
 field_parts : (s : Schema) (follow : Follow PlacedFields) (f : Field) (parent : Parent)
     → fields_of_field s follow f parent
     ≡ own_field s (response_key (out-Field f).alias (out-Field f).name.text) (out-Field f).name.text (out-Field f).arguments parent
-        ∷ map (beneath (response_key (out-Field f).alias (out-Field f).name.text) parent)
-            (fields_below (option_map (fields_of_set s follow) (out-Field f).selection_set) (field_parent s parent (out-Field f).name.text))
+    ∷ map (beneath (response_key (out-Field f).alias (out-Field f).name.text) parent)
+    (fields_below (option_map (fields_of_set s follow) (out-Field f).selection_set) (field_parent s parent (out-Field f).name.text))
 field_parts s follow f parent =
     ap (λ (g : PlacedIn). g parent) (fold_out-Field _ _ _ _ (selection_fields follow) (field_fields s) (inline_fields s) set_fields f)
     ∙ field_at s follow (out-Field f) (out-Field f).selection_set parent
@@ -124,8 +124,8 @@ field_alone s follow r0 r1 row f parent place made not put =
     (ap (λ x. x ∷ []) (own_is s row f parent made)
     ∙ sym (field_parts s follow f parent
     ∙ ap (λ (o : Option SelectionSet). own_field s (response_key (out-Field f).alias (out-Field f).name.text) (out-Field f).name.text (out-Field f).arguments parent
-        ∷ map (beneath (response_key (out-Field f).alias (out-Field f).name.text) parent)
-            (fields_below (option_map (fields_of_set s follow) o) (field_parent s parent (out-Field f).name.text))) (none_of (out-Field f).selection_set not)))
+    ∷ map (beneath (response_key (out-Field f).alias (out-Field f).name.text) parent)
+    (fields_below (option_map (fields_of_set s follow) o) (field_parent s parent (out-Field f).name.text))) (none_of (out-Field f).selection_set not)))
     (grows_alone s r0 r1 row place put)
 
 pub field_with_set : (s : Schema) (follow : Follow PlacedFields) (r0 r1 r2 : List Row) (row : Row) (f : Field) (set : SelectionSet) (parent below : Parent) (place : ℕ)
@@ -139,6 +139,6 @@ field_with_set s follow r0 r1 r2 row f set parent below place made has type put 
     ((λ i. own_is s row f parent made i ∷ map (beneath (made.key i) (made.parent_is i)) (fields_of_set s follow set (type i)))
     ∙ sym (field_parts s follow f parent
     ∙ ap (λ (o : Option SelectionSet). own_field s (response_key (out-Field f).alias (out-Field f).name.text) (out-Field f).name.text (out-Field f).arguments parent
-        ∷ map (beneath (response_key (out-Field f).alias (out-Field f).name.text) parent)
-            (fields_below (option_map (fields_of_set s follow) o) (field_parent s parent (out-Field f).name.text))) has))
+    ∷ map (beneath (response_key (out-Field f).alias (out-Field f).name.text) parent)
+    (fields_below (option_map (fields_of_set s follow) o) (field_parent s parent (out-Field f).name.text))) has))
     (grows_below s r0 r1 r2 row place (fields_of_set s follow set below) put then)

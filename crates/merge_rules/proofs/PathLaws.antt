@@ -89,7 +89,7 @@ even_below s rows fs stands (suc n) (Some i) low within =
     let is : slice_get rows i ≡ Some row = (row_there rows i within).1 in
     even_at s fs i row (stands.field i row is)
     (even_below s rows fs stands n row.above (within_more row.above i n (omega arith) (stands.earlier i row is))
-        (within_more row.above i (length rows) (omega arith) (stands.earlier i row is)))
+    (within_more row.above i (length rows) (omega arith) (stands.earlier i row is)))
 
 pub even : (s : Schema) (rows : List Row) (fs : PlacedFields) → Stands s rows fs → (a : Option ℕ) → IsWithin a (length rows)
     → length (above_parents fs a) ≡ length (above_path fs a)
@@ -144,7 +144,7 @@ pub above_shared : (s : Schema) (rows : List Row) (fs : PlacedFields) (i j : ℕ
     → same_path (above_path fs x.above) (above_path fs y.above) ≡ true
 above_shared s rows fs i j x y stands x_is y_is shared =
     both_true (bytes_eq x.key.now y.key.now) (same_path (above_path fs x.above) (above_path fs y.above))
-        (share_rows s rows fs i j x y (same_path (above_path fs x.above) (above_path fs y.above)) stands x_is y_is refl ∙ shared)
+    (share_rows s rows fs i j x y (same_path (above_path fs x.above) (above_path fs y.above)) stands x_is y_is refl ∙ shared)
 
 -- two rows of one path may meet where their types may overlap and those above may meet
 pub meet_rows : (s : Schema) (rows : List Row) (fs : PlacedFields) (i j : ℕ) (x y : Row) (above : Bool) → Stands s rows fs
@@ -154,9 +154,9 @@ pub meet_rows : (s : Schema) (rows : List Row) (fs : PlacedFields) (i j : ℕ) (
     → (may_overlap s x.parent y.parent && above) ≡ all_may_overlap s (above_parents fs (Some i)) (above_parents fs (Some j))
 meet_rows s rows fs i j x y above stands x_is y_is x_in y_in shared is =
     let long : length (above_parents fs x.above) ≡ length (above_parents fs y.above) =
-        even s rows fs stands x.above x_in
-        ∙ same_length (above_path fs x.above) (above_path fs y.above) (above_shared s rows fs i j x y stands x_is y_is shared)
-        ∙ sym (even s rows fs stands y.above y_in) in
+    even s rows fs stands x.above x_in
+    ∙ same_length (above_path fs x.above) (above_path fs y.above) (above_shared s rows fs i j x y stands x_is y_is shared)
+    ∙ sym (even s rows fs stands y.above y_in) in
     and_comm (may_overlap s x.parent y.parent) above
     ∙ ap (λ b. b && may_overlap s x.parent y.parent) is
     ∙ sym (overlap_last s (above_parents fs x.above) (above_parents fs y.above) x.parent y.parent long)
@@ -187,7 +187,7 @@ kin_case : (s : Schema) (rows : List Row) (fs : PlacedFields) (i j : ℕ) (x y :
     ≡ kin s fs (Some i) (Some j)
 kin_case s rows fs i j x y true stands x_is y_is x_in y_in keys shared =
     let whole : same_path (above_path fs (Some i)) (above_path fs (Some j)) ≡ true =
-        sym (share_rows s rows fs i j x y true stands x_is y_is (sym shared)) ∙ ap (λ b. b && true) keys in
+    sym (share_rows s rows fs i j x y true stands x_is y_is (sym shared)) ∙ ap (λ b. b && true) keys in
     ap Some (and_comm (all_may_overlap s (above_parents fs x.above) (above_parents fs y.above)) (may_overlap s x.parent y.parent)
     ∙ meet_rows s rows fs i j x y (all_may_overlap s (above_parents fs x.above) (above_parents fs y.above)) stands x_is y_is x_in y_in whole refl)
     ∙ ap (λ t. cond t (Some (all_may_overlap s (above_parents fs (Some i)) (above_parents fs (Some j)))) None) (sym whole)

@@ -158,11 +158,11 @@ joined s rows fs xs ys first same then = record {
   more = first ++ then.more;
   stands = subst (λ (gs : PlacedFields). Stands s rows gs) (append_assoc fs first then.more) then.stands;
   same = λ test.
-    ap (list_any test) (sym (append_assoc fs first then.more))
-    ∙ then.same test
-    ∙ ap (λ b. b || list_any test ys) (same test)
-    ∙ or_assoc (list_any test fs) (list_any test xs) (list_any test ys)
-    ∙ ap (λ b. list_any test fs || b) (sym (list_any-append test xs ys));
+      ap (list_any test) (sym (append_assoc fs first then.more))
+      ∙ then.same test
+      ∙ ap (λ b. b || list_any test ys) (same test)
+      ∙ or_assoc (list_any test fs) (list_any test xs) (list_any test ys)
+      ∙ ap (λ b. list_any test fs || b) (sym (list_any-append test xs ys));
 }
 
 pub grows_none : (s : Schema) (rows : List Row) (above : Option ℕ) → Grows s rows rows above []
@@ -180,8 +180,8 @@ grows_more s r0 r1 r2 above xs ys within first then = λ fs stands.
     let h : Grown s r2 (fs ++ g.more) (map (under (above_path (fs ++ g.more) above) (above_parents (fs ++ g.more) above)) ys) = then (fs ++ g.more) g.stands in
     subst (λ (zs : PlacedFields). Grown s r2 fs zs) (sym (map_joined (under (above_path fs above) (above_parents fs above)) xs ys))
     (joined s r2 fs (map (under (above_path fs above) (above_parents fs above)) xs) (map (under (above_path fs above) (above_parents fs above)) ys) g.more g.same
-        (subst (λ (p : List (List ℕ)). Grown s r2 (fs ++ g.more) (map (under p (above_parents fs above)) ys)) (path_kept fs g.more above inside)
-        (subst (λ (ps : List Parent). Grown s r2 (fs ++ g.more) (map (under (above_path (fs ++ g.more) above) ps) ys)) (parents_kept fs g.more above inside) h)))
+    (subst (λ (p : List (List ℕ)). Grown s r2 (fs ++ g.more) (map (under p (above_parents fs above)) ys)) (path_kept fs g.more above inside)
+    (subst (λ (ps : List Parent). Grown s r2 (fs ++ g.more) (map (under (above_path (fs ++ g.more) above) ps) ys)) (parents_kept fs g.more above inside) h)))
 
 -- ---- a field, and what stands in its set
 
@@ -190,7 +190,7 @@ beneath_under : (p : List (List ℕ)) (c : List Parent) (key : List ℕ) (parent
 beneath_under p c key parent [] = refl
 beneath_under p c key parent (x ∷ xs) =
     λ i. record x { path = append_assoc p (key ∷ []) x.path i; parents = append_assoc c (parent ∷ []) x.parents i }
-        ∷ beneath_under p c key parent xs i
+    ∷ beneath_under p c key parent xs i
 
 pub grows_alone : (s : Schema) (r0 r1 : List Row) (row : Row) (place : ℕ)
     → ((fs : PlacedFields) → Stands s r0 fs → Put s r1 fs (field_of_row s fs row) place)
@@ -208,5 +208,5 @@ grows_below s r0 r1 r2 row place below put then = λ fs stands.
     let c : above_parents (fs ++ q.grown.more) (Some place) ≡ (field_of_row s fs row).parents = ap (λ (o : Option Placed). option_map_or (λ f. f.parents) o []) q.at in
     joined s r2 fs (field_of_row s fs row ∷ []) (map (under (above_path fs row.above) (above_parents fs row.above)) (map (beneath row.key.now row.parent) below)) q.grown.more q.grown.same
     (subst (λ (zs : PlacedFields). Grown s r2 (fs ++ q.grown.more) zs) (beneath_under (above_path fs row.above) (above_parents fs row.above) row.key.now row.parent below)
-        (subst (λ (x : List (List ℕ)). Grown s r2 (fs ++ q.grown.more) (map (under x (field_of_row s fs row).parents) below)) p
-        (subst (λ (y : List Parent). Grown s r2 (fs ++ q.grown.more) (map (under (above_path (fs ++ q.grown.more) (Some place)) y) below)) c h)))
+    (subst (λ (x : List (List ℕ)). Grown s r2 (fs ++ q.grown.more) (map (under x (field_of_row s fs row).parents) below)) p
+    (subst (λ (y : List Parent). Grown s r2 (fs ++ q.grown.more) (map (under (above_path (fs ++ q.grown.more) (Some place)) y) below)) c h)))

@@ -52,12 +52,7 @@ fn has_same_key(x: Row<'_>, y: Row<'_>) -> bool
     x.key == y.key
 }
 
-fn with_parents(
-    schema: &Schema,
-    x: Row<'_>,
-    y: Row<'_>,
-    above: Option<bool>,
-) -> Option<bool>
+fn with_parents(schema: &Schema, x: Row<'_>, y: Row<'_>, above: Option<bool>) -> Option<bool>
     ensures { result ≡ option_map (λ m. m && may_overlap schema.now x.entry.parent y.entry.parent) above }
 {
     match above {

@@ -18,9 +18,9 @@ expand_set-selections-preserved t c = record {
   within = within_more c.args.at.above _ _ c.in_ok-expand_selection.ensures.longer c.selections.invariant.within;
   longer = omega (arith, c.in_ok-expand_selection.ensures.longer, c.selections.invariant.longer);
   grows = grows_next c.args.scope.now.schema.now _ _ _ c.args.at.above
-    (fields_of_selection c.args.scope.now.schema.now (followed_within c.args.fuel [] (fragment_fields c.args.scope.now.schema.now) c.args.scope.now.document.now))
-    c.args.at.parent c.as_slice-selection-items.result.now c.selections.selection-index c.selection-item.result
-    (omega arith) c.selection-item.is c.requires c.selections.invariant.grows c.in_ok-expand_selection.ensures.grows;
+      (fields_of_selection c.args.scope.now.schema.now (followed_within c.args.fuel [] (fragment_fields c.args.scope.now.schema.now) c.args.scope.now.document.now))
+      c.args.at.parent c.as_slice-selection-items.result.now c.selections.selection-index c.selection-item.result
+      (omega arith) c.selection-item.is c.requires c.selections.invariant.grows c.in_ok-expand_selection.ensures.grows;
 }
 
 pub expand_set-returns-clause-grows : goal.expand_set-returns-clause-grows
@@ -61,18 +61,18 @@ expand_field-returns-clause-grows t c =
 pub expand_fragment-expand_set-requires : goal.expand_fragment-expand_set-requires
 expand_fragment-expand_set-requires t c =
     let light : size-SelectionSet c.in-Some.fragment.now.selection_set ≤ greatest c.args.scope.now.document.now.definitions =
-        is_light c.args.name.now c.args.scope.now.document.now.definitions c.in-Some.fragment.now (sym c.fragment.ensures ∙ ap option_copied c.in-Some.is) in
+    is_light c.args.name.now c.args.scope.now.document.now.definitions c.in-Some.fragment.now (sym c.fragment.ensures ∙ ap option_copied c.in-Some.is) in
     let lower : (c.args.fuel - 1) * (greatest c.args.scope.now.document.now.definitions + 2) + (size-SelectionSet c.in-Some.fragment.now.selection_set + 1)
-        < c.args.fuel * (greatest c.args.scope.now.document.now.definitions + 2) =
-        falls c.args.fuel (size-SelectionSet c.in-Some.fragment.now.selection_set) (greatest c.args.scope.now.document.now.definitions) (omega arith) light in
+    < c.args.fuel * (greatest c.args.scope.now.document.now.definitions + 2) =
+    falls c.args.fuel (size-SelectionSet c.in-Some.fragment.now.selection_set) (greatest c.args.scope.now.document.now.definitions) (omega arith) light in
     (omega (arith, lower), c.requires)
 
 pub expand_fragment-returns-clause-grows : goal.expand_fragment-returns-clause-grows
 expand_fragment-returns-clause-grows t c =
     subst (λ (zs : PlacedFields). Grows c.args.scope.now.schema.now c.args.rows.now.items c.expand_set.new.rows.items c.args.above zs)
     (ap (λ p. fields_of_set c.args.scope.now.schema.now
-        (followed_within (c.args.fuel - 1) [] (fragment_fields c.args.scope.now.schema.now) c.args.scope.now.document.now)
-        c.in-Some.fragment.now.selection_set p) c.composite_named.ensures
+    (followed_within (c.args.fuel - 1) [] (fragment_fields c.args.scope.now.schema.now) c.args.scope.now.document.now)
+    c.in-Some.fragment.now.selection_set p) c.composite_named.ensures
     ∙ follow_step c.args.fuel [] (fragment_fields c.args.scope.now.schema.now) c.args.scope.now.document.now c.args.name.now c.in-Some.fragment.now
-        (omega arith) (sym c.fragment.ensures ∙ ap option_copied c.in-Some.is))
+    (omega arith) (sym c.fragment.ensures ∙ ap option_copied c.in-Some.is))
     c.in_ok-expand_set.ensures.grows

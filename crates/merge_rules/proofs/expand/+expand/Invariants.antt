@@ -27,8 +27,8 @@ invariant-expand_set-selections l = record {
   within : IsWithin l.at.above (length l.rows.items);
   longer : length l.initial.rows.items ≤ length l.rows.items;
   grows :
-    Grows l.scope.schema.now l.initial.rows.items l.rows.items l.at.above
+      Grows l.scope.schema.now l.initial.rows.items l.rows.items l.at.above
       (flat_map (λ (fs : PlacedIn). fs l.at.parent)
-        (map (fields_of_selection l.scope.schema.now (followed_within l.fuel [] (fragment_fields l.scope.schema.now) l.scope.document.now))
-          (take l.selection-index l.selection-items)));
+      (map (fields_of_selection l.scope.schema.now (followed_within l.fuel [] (fragment_fields l.scope.schema.now) l.scope.document.now))
+      (take l.selection-index l.selection-items)));
 }

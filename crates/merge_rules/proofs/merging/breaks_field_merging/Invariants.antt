@@ -10,4 +10,4 @@ abbrev pub invariant-definitions : goal.invariant-definitions
 invariant-definitions l =
     breaks_field_merging l.scope.schema.now l.scope.document.now
     ≡ list_any (operation_is (λ (o : Operation). some_conflict l.scope.schema.now (operation_fields l.scope.schema.now l.scope.document.now o)))
-        (drop l.definition-index l.definition-items)
+    (drop l.definition-index l.definition-items)

@@ -7,12 +7,12 @@ use Rattle.merge_rules.proofs.rows.put.Goals as goal
 pub returns-in-Some-clause-field : goal.returns-in-Some-clause-field
 returns-in-Some-clause-field c = λ s fs stands.
     there s c.args.rows.now.items fs (field_of_row s fs c.args.row) c.in-Some.place stands
-        (c.in-Some.ensures.field s fs (subst (λ (rs : List Row). Stands s rs fs) (sym c.as_slice.ensures.value) stands))
+    (c.in-Some.ensures.field s fs (subst (λ (rs : List Row). Stands s rs fs) (sym c.as_slice.ensures.value) stands))
 
 pub returns-clause-field : goal.returns-clause-field
 returns-clause-field c = λ s fs stands.
     let place_is : c.len-place.result ≡ length c.args.rows.now.items =
-        first_of (omega (arith, c.len-place.ensures), search rules, omega (arith, c.len-place.ensures, c.args.rows.now.ok.0)) in
+    first_of (omega (arith, c.len-place.ensures), search rules, omega (arith, c.len-place.ensures, c.args.rows.now.ok.0)) in
     subst (λ (rs : List Row). Put s rs fs (field_of_row s fs c.args.row) c.len-place.result) (sym c.in_ok-push.ensures.items)
     (subst (λ (n : ℕ). Put s (c.args.rows.now.items ++ c.args.row ∷ []) fs (field_of_row s fs c.args.row) n) (sym place_is)
-        (pushed s c.args.rows.now.items fs c.args.row stands c.requires))
+    (pushed s c.args.rows.now.items fs c.args.row stands c.requires))
