@@ -22,9 +22,9 @@ impl From<Memory> for SchemaError {
 
 /// A code that is broken, and its least line.
 #[derive(Clone, Copy)]
-pub(crate) struct Refusal {
-    pub(crate) code: u8,
-    pub(crate) line: u64,
+pub struct Refusal {
+    pub code: u8,
+    pub line: u64,
 }
 
 impl Refusal {

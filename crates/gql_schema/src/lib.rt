@@ -24,7 +24,7 @@ mod schema_rows;
 mod tests;
 mod verdict;
 
-pub use error::SchemaError;
+pub use error::{Refusal, SchemaError};
 pub use reading::read_schema;
 pub use schema_model::{
     InputValue, Interfaced, RootName, RootNames, Schema, SchemaDirective, SchemaField, SchemaType,
