@@ -52,26 +52,30 @@ fn is_scalar(form: &TypeForm) -> bool
     matches!(form, TypeForm::Scalar)
 }
 
-pub(crate) fn takes_integer(schema: &Schema, number: i64, name: &Text) -> bool
+/// Whether a whole number may stand where a type of this name is wanted: an Int of 32 bits, a Float, an ID or a
+/// custom scalar.
+pub fn takes_integer(schema: &Schema, number: i64, name: &Text) -> bool
     ensures { result ≡ takes_integer schema.now number name.now }
 {
     names_scalar(schema, name) && scalar_takes_integer(name.as_str(), number)
 }
 
-pub(crate) fn takes_string(schema: &Schema, name: &Text) -> bool
+/// Whether a string may: for a String, an ID or a custom scalar.
+pub fn takes_string(schema: &Schema, name: &Text) -> bool
     ensures { result ≡ takes_string schema.now name.now }
 {
     names_scalar(schema, name) && scalar_takes_string(name.as_str())
 }
 
-pub(crate) fn takes_boolean(schema: &Schema, name: &Text) -> bool
+/// Whether a truth value may: for a Boolean or a custom scalar.
+pub fn takes_boolean(schema: &Schema, name: &Text) -> bool
     ensures { result ≡ takes_boolean schema.now name.now }
 {
     names_scalar(schema, name) && scalar_takes_boolean(name.as_str())
 }
 
 /// Whether the name is that of a scalar that isn't built in, which takes any literal.
-pub(crate) fn takes_any(schema: &Schema, name: &Text) -> bool
+pub fn takes_any(schema: &Schema, name: &Text) -> bool
     ensures { result ≡ takes_any schema.now name.now }
 {
     names_scalar(schema, name) && is_custom(name.as_str())
@@ -83,7 +87,8 @@ pub(crate) fn takes_name(schema: &Schema, word: &Text, name: &Text) -> bool
     enum_takes(schema, word, name) || takes_any(schema, name)
 }
 
-fn enum_takes(schema: &Schema, word: &Text, name: &Text) -> bool
+/// Whether the name is that of an enum that has this value.
+pub fn enum_takes(schema: &Schema, word: &Text, name: &Text) -> bool
     ensures { result ≡ option_map_or (λ t. has_value t.form word.now) (entry schema.now.types name.now) false }
 {
     match schema.types.get(name) {
