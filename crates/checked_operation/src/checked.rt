@@ -11,15 +11,17 @@ use gql_numbering::{Mark, Numbering};
 use std::alloc::Global;
 use text_types::{Items, Memory};
 
-/// A document with its numbering and the index of its fragments, and the chosen one of its operations: the
-/// place among the definitions, and the number of the operation's own selection set, in a list of one.
+/// A document with its numbering and the index of its fragments, and one of its operations.
 #[derive(Drop)]
 pub struct Checked {
-    document: Document,
-    numbering: Numbering,
-    fragments: FragmentIndex,
-    place: usize,
-    sets: Items<u64>,
+    /// The client's document.
+    pub document: Document,
+    pub numbering: Numbering,
+    pub fragments: FragmentIndex,
+    /// The place of the operation among the document's definitions, counted from 0.
+    pub place: usize,
+    /// The number of the operation's own selection set, in a list of one.
+    pub sets: Items<u64>,
 }
 
 impl Checked {
@@ -40,41 +42,6 @@ impl Checked {
             place,
             sets,
         })
-    }
-
-    /// The client's document.
-    pub fn document(&self) -> &Document
-        ensures { result.now ≡ self.now.document }
-    {
-        &self.document
-    }
-
-    /// The numbers of the document's selection sets and fields.
-    pub fn numbering(&self) -> &Numbering
-        ensures { result.now ≡ self.now.numbering }
-    {
-        &self.numbering
-    }
-
-    /// The index of the document's fragments.
-    pub fn fragments(&self) -> &FragmentIndex
-        ensures { result.now ≡ self.now.fragments }
-    {
-        &self.fragments
-    }
-
-    /// The place of the operation among the document's definitions, counted from 0.
-    pub fn place(&self) -> usize
-        ensures { result ≡ self.now.place }
-    {
-        self.place
-    }
-
-    /// The number of the operation's own selection set, in a list of one.
-    pub fn sets(&self) -> &[u64]
-        ensures { result.now ≡ self.now.sets }
-    {
-        self.sets.as_slice()
     }
 
     /// The operation.
