@@ -1,5 +1,5 @@
 -- The operation that is chosen stands at the place that is chosen.
-use Rattle.std.proofs.Common.{◌≡◌, ℕ, List, [], ◌∷◌, refl, ap, sym, ◌∙◌, Bool, true, false, cond}
+use Rattle.std.proofs.Common.{◌≡◌, ℕ, List, [], ◌∷◌, refl, ap, sym, subst, ◌∙◌, Bool, true, false, cond}
 use Rattle.std.specs.Prelude.{Option, Some, None, is_some, is_none, slice_get, position}
 use Rattle.std.specs.Option.{option_and_then}
 use Rattle.std.specs.List.{find, flat_map}
@@ -15,6 +15,7 @@ use Rattle.check_model.specs.Executables.{operation_in, operation_is, operations
 use Rattle.check_model.specs.Judgement.{refusal_of}
 use Rattle.check_model.proofs.ListLaws.{find_place}
 use Rattle.fragment_rules.specs.Choices.{as_operation}
+use Rattle.execution_model.specs.Asked.{kind_in}
 use Rattle.checked_operation.specs.Choice.{is_asked, chosen_place, operation_at}
 
 found_case : (test : Operation → Bool) (o : Operation) (ds : List Definition) (b : Bool)
@@ -72,3 +73,13 @@ pub unrefused_place : (schema : Schema) (document : Document) (name : Option (Li
     → is_some (option_and_then (operation_at document) (chosen_place document name)) ≡ true
 unrefused_place schema document name is =
     place_case document (chosen_place document name) (chosen document name) (chosen_case (chosen document name) _ is) (chosen_at document name)
+
+-- ---- the kind of an operation
+
+pub kind_told : (d : Option Definition) (o : Operation) → Some o ≡ option_and_then as_operation d → Some o.kind ≡ option_and_then kind_in d
+kind_told None o is = absurd (cc)
+kind_told (Some (definition.Operation p)) o is =
+    let same : o ≡ p = cc in
+    subst (λ (x : Operation). Some o.kind ≡ Some x.kind) same refl
+kind_told (Some (definition.Fragment f)) o is = absurd (cc)
+kind_told (Some (definition.TypeSystem t)) o is = absurd (cc)

@@ -56,6 +56,7 @@ impl Checked {
     }
 
     /// What kind of operation it is.
+    #[tactic(auto, using(crate::proofs::ChoiceLaws::kind_told))]
     pub fn kind(&self) -> OperationKind
         requires { IsWhole self.now }
         ensures { Some result ≡ option_and_then kind_in (slice_get self.now.document.definitions self.now.place) }
