@@ -17,7 +17,7 @@ fn definitions(rt: HostRuntime) -> Result<(), Fail> {
         ("{me{id}} fragment F on User{__type}", "", INTROSPECTION),
         ("{x:__typename}", "", ACCEPTED),
         ("{me{id}} type X{a:Int}", "", 1),
-        ("{me{id}} extend type Query{a:Int}", "", 1),
+        ("{me{id}} schema{query:Query}", "", 1),
         ("query A{me{id}} query A{me{id}}", "A", 2),
         ("query A{me{id}} subscription A{added{id}}", "A", 2),
         (
