@@ -9,6 +9,7 @@
 //! [`Steps`].
 #![tactic(auto)]
 
+mod arguments;
 mod coverage;
 mod entity;
 mod escapes;
