@@ -9,7 +9,9 @@ use Rattle.gql_model.specs.declared.selection.Selection.{Selection, roll-Selecti
 use Rattle.gql_model.specs.declared.selection.Field.{Field, roll-Field}
 use Rattle.gql_model.specs.declared.selection.InlineFragment.{InlineFragment, roll-InlineFragment}
 use Rattle.gql_model.specs.declared.selection.Selection.TheOpen.{SelectionSet-F, Selection-F, Field-F, InlineFragment-F}
-use Rattle.gql_model.specs.declared.selection.Selection.TheFolds.{fold-SelectionSet, fold-Selection}
+use Rattle.gql_model.specs.declared.selection.Selection.TheFolds.{fold-SelectionSet, fold-Selection, fold-Field, fold-InlineFragment}
+use Rattle.gql_model.specs.declared.executable.Operation.{Operation}
+use Rattle.gql_model.specs.declared.executable.Fragment.{Fragment}
 use Rattle.gql_model.specs.declared.document.Document.{Document}
 use Rattle.gql_model.specs.declared.document.Definition.{Definition}
 use Rattle.gql_model.specs.declared.document.Definition.TheVariants as definition
@@ -88,11 +90,23 @@ abbrev pub sent_selection : Schema → Bool → Selection → SelectionSent
 sent_selection schema subscribes =
     fold-Selection SelectionSent FieldSent (SentIn InlineFragment) SetSent selection_sent (field_sent schema) (inline_sent schema) (set_sent schema subscribes)
 
+abbrev pub sent_field : Schema → Bool → Field → FieldSent
+sent_field schema subscribes =
+    fold-Field SelectionSent FieldSent (SentIn InlineFragment) SetSent selection_sent (field_sent schema) (inline_sent schema) (set_sent schema subscribes)
+
+abbrev pub sent_inline : Schema → Bool → InlineFragment → SentIn InlineFragment
+sent_inline schema subscribes =
+    fold-InlineFragment SelectionSent FieldSent (SentIn InlineFragment) SetSent selection_sent (field_sent schema) (inline_sent schema) (set_sent schema subscribes)
+
+abbrev pub sent_operation : Schema → Bool → Operation → Operation
+sent_operation schema subscribes d = record d { selection_set = sent_set schema subscribes d.selection_set OfOperation (root_parent schema d.kind) }
+
+abbrev pub sent_fragment : Schema → Bool → Fragment → Fragment
+sent_fragment schema subscribes d = record d { selection_set = sent_set schema subscribes d.selection_set OfFragment (composite_named schema d.type_condition.text) }
+
 abbrev pub sent_definition : Schema → Bool → Definition → Definition
-sent_definition schema subscribes (definition.Operation d) =
-    definition.Operation (record d { selection_set = sent_set schema subscribes d.selection_set OfOperation (root_parent schema d.kind) })
-sent_definition schema subscribes (definition.Fragment d) =
-    definition.Fragment (record d { selection_set = sent_set schema subscribes d.selection_set OfFragment (composite_named schema d.type_condition.text) })
+sent_definition schema subscribes (definition.Operation d) = definition.Operation (sent_operation schema subscribes d)
+sent_definition schema subscribes (definition.Fragment d) = definition.Fragment (sent_fragment schema subscribes d)
 sent_definition schema subscribes (definition.TypeSystem d) = definition.TypeSystem d
 
 -- the document that is sent; where it has a subscription, chosen or not, that keeps its one root field
