@@ -26,11 +26,10 @@ pub fn check(
     ensures accepted { IfOk result (λ checked. IsAcceptedAs schema.now (option_copied name.entry) checked) }
     ensures refused { IfErr result (IsCheckError (refusal_of schema.now document (option_copied name.entry))) }
 {
-    if let Some(refusal) = first_refusal(alloc, schema, &document, name)? {
-        return Err(error_of(refusal));
+    match first_refusal(alloc, schema, &document, name)? {
+        Some(refusal) => Err(error_of(refusal)),
+        None => Ok(chosen(alloc, document, name)?),
     }
-    let checked = chosen(alloc, document, name)?;
-    Ok(checked)
 }
 
 /// Keeps the operation that is chosen.
