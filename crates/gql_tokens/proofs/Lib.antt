@@ -10,6 +10,7 @@ pub mod NameLaws
 pub mod NestingLaws
 pub mod NumberLaws
 pub mod PlaceLaws
+pub mod PlainLaws
 pub mod RunLaws
 pub mod SpanLaws
 pub mod StringLaws

@@ -1,9 +1,11 @@
 -- Places and rests of a text, byte by byte and stretch by stretch.
-use Rattle.std.proofs.Common.{◌≡◌, ◌≤◌, ◌<◌, ℕ, zero, suc, ◌+◌, ◌-◌, List, [], ◌∷◌, length, drop, refl, sym, ap, subst, ◌∙◌, arith, length-drop}
+use Rattle.std.proofs.Common.{◌≡◌, ◌≤◌, ◌<◌, ℕ, zero, suc, ◌+◌, ◌-◌, ◌==◌, Bool, true, false, List, [], ◌∷◌, length, take, drop, refl, sym, ap, subst, ◌∙◌, arith, length-drop}
+use Rattle.std.specs.List.{prefix_len}
+use Rattle.std.proofs.lemmas.Bool.Decides.{nat_tests}
 use Rattle.std.proofs.lemmas.List.{drop-drop}
 use Rattle.gql_tokens.specs.declared.token.Place.{Place}
 use Rattle.gql_tokens.specs.Characters.{ends_line}
-use Rattle.gql_tokens.specs.Places.{is_inside_character, place_behind, place_after}
+use Rattle.gql_tokens.specs.Places.{is_inside_character, takes_column, place_behind, place_after}
 use Rattle.gql_tokens.specs.Readings.{HasRoom}
 use Rattle.gql_tokens.specs.Heads.{IsBehind}
 use Rattle.gql_tokens.proofs.Choices.{choice}
@@ -89,3 +91,43 @@ pub IsBehind-shorter : (start : Place) (text : List ℕ) (place : Place) (rest :
 IsBehind-shorter start text place rest n whole e h =
     let cut : length rest ≡ length text - (length text - length rest) = ap length h.rest_is ∙ length-drop (length text - length rest) text in
     omega arith
+
+-- a stretch of bytes that take a column each
+abbrev pub columns_in : ℕ → List ℕ → ℕ
+columns_in len text = prefix_len takes_column (take len text)
+
+abbrev pub further : ℕ → Place → Place
+further n place = record { row = place.row; column = place.column + n }
+
+column_behind : (place : Place) (b : ℕ) (rest : List ℕ) → takes_column b ≡ true → place_behind place b rest ≡ further 1 place
+column_behind place b rest h =
+    let line : (b == 10) ≡ false = grind (arith, nat_tests) in
+    let carriage : (b == 13) ≡ false = grind (arith, nat_tests) in
+    let whole : is_inside_character b ≡ false = grind (arith, nat_tests) in
+    rw (line, carriage, whole) refl
+
+further-none : (place : Place) → place ≡ further 0 place
+further-none place = let e : place.column + 0 ≡ place.column = omega arith in rw e refl
+
+further-more : (n : ℕ) (place : Place) → further n (further 1 place) ≡ further (suc n) place
+further-more n place = let e : place.column + 1 + n ≡ place.column + suc n = omega arith in rw e refl
+
+pub columns_after : (len : ℕ) (place : Place) (text : List ℕ) → place_after (columns_in len text) place text ≡ further (columns_in len text) place
+columns_after zero place text = further-none place
+columns_after (suc len) place [] = further-none place
+columns_after (suc len) place (b ∷ rest) = here (takes_column b) refl (columns_after len (further 1 place) rest)
+  where
+    here : (t : Bool) → takes_column b ≡ t → place_after (columns_in len rest) (further 1 place) rest ≡ further (columns_in len rest) (further 1 place)
+        → place_after (columns_in (suc len) (b ∷ rest)) place (b ∷ rest) ≡ further (columns_in (suc len) (b ∷ rest)) place
+    here false e more = rw e (further-none place)
+    here true e more =
+        let one : 1 + columns_in len rest ≡ suc (columns_in len rest) = omega arith in
+        let behind = ap (λ (there : Place). place_after (columns_in len rest) there rest) (column_behind place b rest e) in
+        rw (e, one) (behind ∙ more ∙ further-more (columns_in len rest) place)
+
+pub columns_then : (len columns : ℕ) (start : Place) (text : List ℕ) → columns ≡ columns_in len text → columns ≤ len
+    → place_after (len - columns) (further columns start) (drop columns text) ≡ place_after len start text
+columns_then len columns start text e h =
+    let whole : columns + (len - columns) ≡ len = omega arith in
+    let there : place_after columns start text ≡ further columns start = rw e (columns_after len start text) in
+    ap (λ (place : Place). place_after (len - columns) place (drop columns text)) (sym there) ∙ sym (place_after-add columns (len - columns) start text) ∙ ap (λ (n : ℕ). place_after n start text) whole

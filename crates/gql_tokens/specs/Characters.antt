@@ -24,6 +24,10 @@ abbrev pub source_character : List ℕ → Option (List ℕ × ℕ)
 source_character [] = None
 source_character (b ∷ rest) = if is_source_byte b then utf8_front (encoded_len b) (b ∷ rest) else None
 
+-- a byte that is a character wherever characters stand, and means itself: ASCII from the space on, but `"` and backslash
+abbrev pub is_plain : ℕ → Bool
+is_plain b = nat_le 32 b && nat_lt b 128 && not (b == 34) && not (b == 92)
+
 -- WhiteSpace: tab and space (2.1.2)
 abbrev pub is_white_space : ℕ → Bool
 is_white_space b = b == 9 || b == 32

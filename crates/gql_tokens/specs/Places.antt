@@ -11,6 +11,10 @@ first_place = record { row = 1; column = 1 }
 abbrev pub is_inside_character : ℕ → Bool
 is_inside_character b = nat_le 128 b && nat_lt b 192
 
+-- a byte that is a whole character, takes a column and ends no line: ASCII from the space on
+abbrev pub takes_column : ℕ → Bool
+takes_column b = nat_le 32 b && nat_lt b 128
+
 -- the place behind one byte before this rest: a line end begins the next row, a character takes a column
 abbrev pub place_behind : Place → ℕ → List ℕ → Place
 place_behind place b rest =

@@ -1,5 +1,5 @@
 -- A rule taken again and again from the front of a text.
-use Rattle.std.specs.Prelude.{ℕ, zero, suc, ◌+◌, ◌-◌, Option, Some, None, List, [], ◌∷◌, ◌++◌}
+use Rattle.std.specs.Prelude.{◌≡◌, ℕ, zero, suc, ◌+◌, ◌-◌, Option, Some, None, List, [], ◌∷◌, ◌++◌, drop}
 
 -- a rule says what stands at the front of a text: what it means, and how many bytes it takes; or none
 abbrev pub Rule : Type 0
@@ -23,3 +23,9 @@ run_behind rule zero (b ∷ rest) = run_on (λ left. run_behind rule left rest) 
 -- the longest run: what all that the rule takes one after another means, and how many bytes it takes
 abbrev pub run : Rule → List ℕ → List ℕ × ℕ
 run rule text = run_behind rule 0 text
+
+-- this stretch begins the run of the text, which goes on behind the bytes that the stretch takes; or the run is empty, where there is none
+abbrev pub Begins : Rule → List ℕ → Option (List ℕ × ℕ) → Type 0
+Begins rule text None = run rule text ≡ ([], 0)
+Begins rule text (Some (bytes, n)) =
+    ((run rule text).0 ≡ bytes ++ (run rule (drop n text)).0) × ((run rule text).1 ≡ n + (run rule (drop n text)).1)

@@ -1,6 +1,7 @@
 //! Source characters, and the characters inside comments, strings and block strings.
 
-ghost use Rattle.std.specs.Prelude.{◌≡◌, ◌≤◌, ◌∷◌, ℕ, length, option_map, IfSome, true};
+ghost use Rattle.std.specs.Prelude.{◌≡◌, ◌≤◌, ◌∷◌, ℕ, length, take, option_map, IfSome, true};
+ghost use Rattle.std.specs.List.{prefix_len};
 ghost use Rattle.std.specs.Str as std_str;
 ghost use Rattle.gql_tokens.specs.Characters as spec;
 ghost use Rattle.gql_tokens.specs.Readings.{meant, Fits};
@@ -48,6 +49,31 @@ fn is_source_byte(byte: u8) -> bool
     ensures { result ≡ spec.is_source_byte byte }
 {
     matches!(byte, b'\t' | b'\n' | b'\r') || byte >= 32
+}
+
+/// Whether the byte is a character wherever characters stand, and means itself.
+fn is_plain(byte: u8) -> bool
+    ensures { result ≡ spec.is_plain byte }
+{
+    byte >= 32 && byte < 128 && byte != b'"' && byte != b'\\'
+}
+
+/// How many plain bytes stand at the front.
+fn plain_len(text: &[u8]) -> usize
+    ensures value { result ≡ prefix_len spec.is_plain text.now }
+    ensures within { result ≤ length text.now }
+{
+    text.iter().take_while(|byte| is_plain(**byte)).count()
+}
+
+/// The plain bytes at the front.
+pub(crate) fn plain_text(text: &[u8]) -> &str
+    ensures { result.now ≡ take (prefix_len spec.is_plain text.now) text.now }
+{
+    match str::from_utf8(text.split_at(plain_len(text)).0) {
+        Ok(plain) => plain,
+        Err(_) => unreachable!(),
+    }
 }
 
 fn encoded_len(byte: u8) -> usize

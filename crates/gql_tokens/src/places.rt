@@ -1,6 +1,8 @@
 //! Rows and columns.
 
 ghost use Rattle.std.specs.Prelude.{◌≡◌, ◌≤◌, ◌<◌, ◌+◌, ◌-◌, ◌^◌, length, drop};
+ghost use Rattle.std.specs.List.{prefix_len};
+ghost use Rattle.gql_tokens.specs.Places as spec;
 ghost use Rattle.gql_tokens.specs.Places.{first_place, place_behind, place_after};
 ghost use Rattle.gql_tokens.specs.Readings.{HasRoom};
 
@@ -35,8 +37,39 @@ fn behind(place: Place, byte: u8, rest: &[u8]) -> Place
     }
 }
 
+/// Whether the byte is a whole character, takes a column and ends no line.
+fn takes_column(byte: u8) -> bool
+    ensures { result ≡ spec.takes_column byte }
+{
+    matches!(byte, 32..=127)
+}
+
+/// How many bytes at the front take a column each.
+fn columns_len(text: &[u8]) -> usize
+    ensures value { result ≡ prefix_len spec.takes_column text.now }
+    ensures within { result ≤ length text.now }
+{
+    text.iter().take_while(|byte| takes_column(**byte)).count()
+}
+
 /// The place behind the first `len` bytes of a text that stands at a place.
+#[tactic(auto, using(crate::proofs::PlaceLaws::columns_then))]
 pub(crate) fn after(len: usize, start: Place, text: &[u8]) -> Place
+    requires within { len ≤ length text.now }
+    requires room { HasRoom start text.now }
+    ensures value { result ≡ place_after len start text.now }
+    ensures room { HasRoom result (drop len text.now) }
+{
+    let columns = columns_len(text.split_at(len).0);
+    let place = Place {
+        row: start.row,
+        column: start.column + columns as u64,
+    };
+    after_bytes(len - columns, place, text.split_at(columns).1)
+}
+
+/// The same, byte by byte.
+fn after_bytes(len: usize, start: Place, text: &[u8]) -> Place
     requires within { len ≤ length text.now }
     requires room { HasRoom start text.now }
     ensures value { result ≡ place_after len start text.now }

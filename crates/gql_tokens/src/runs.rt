@@ -6,7 +6,7 @@ ghost use Rattle.gql_tokens.specs.Lexemes as lexemes;
 ghost use Rattle.gql_tokens.specs.Readings.{meant, rule_of, Fits};
 
 use crate::blocks::block_character;
-use crate::characters::{Character, is_line_end, source_character};
+use crate::characters::{Character, is_line_end, plain_text, source_character};
 use crate::strings::string_character;
 use std::alloc::Global;
 use text_types::Memory;
@@ -42,6 +42,20 @@ fn character(context: Context, text: &[u8]) -> Option<Character<'_>>
     }
 }
 
+/// The plain bytes at the front together, or else the one character there.
+#[tactic(auto, using(crate::proofs::RunLaws::one_begins))]
+fn stretch(context: Context, text: &[u8]) -> Option<Character<'_>>
+    ensures value { spec.Begins (rule_of context) text.now (option_map meant result) }
+    ensures within { IfSome result (λ c. Fits text.now (meant c)) }
+{
+    let plain = plain_text(text);
+    if plain.is_empty() {
+        character(context, text)
+    } else {
+        Some(Character::Source(plain))
+    }
+}
+
 fn len_of(character: Character<'_>) -> usize
     ensures { result ≡ (meant character.entry).1 }
 {
@@ -59,7 +73,7 @@ pub(crate) fn run_len(context: Context, text: &[u8]) -> usize
 {
     let mut len = 0;
     let mut rest = text;
-    'characters: while let Some(next) = character(context, rest) {
+    'characters: while let Some(next) = stretch(context, rest) {
         let taken = len_of(next);
         len += taken;
         rest = rest.split_at(taken).1;
@@ -73,7 +87,7 @@ pub(crate) fn run_value(alloc: Global, context: Context, text: &[u8]) -> Result<
 {
     let mut value = String::new(alloc);
     let mut rest = text;
-    'characters: while let Some(next) = character(context, rest) {
+    'characters: while let Some(next) = stretch(context, rest) {
         push_character(next, &mut value)?;
         rest = rest.split_at(len_of(next)).1;
     }

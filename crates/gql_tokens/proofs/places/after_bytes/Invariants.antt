@@ -1,7 +1,7 @@
 use Rattle.std.proofs.Common.{◌≡◌, ◌-◌, drop}
 use Rattle.gql_tokens.specs.Places.{place_after}
 use Rattle.gql_tokens.specs.Readings.{HasRoom}
-use Rattle.gql_tokens.proofs.places.after.Given as goal
+use Rattle.gql_tokens.proofs.places.after_bytes.Given as goal
 
 abbrev pub invariant-bytes : goal.invariant-bytes
 invariant-bytes l = record {

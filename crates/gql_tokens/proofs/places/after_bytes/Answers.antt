@@ -1,7 +1,7 @@
 use Rattle.std.proofs.Common.{◌∙◌, subst, arith}
 use Rattle.gql_tokens.specs.Readings.{HasRoom}
 use Rattle.gql_tokens.proofs.PlaceLaws.{place_turn, rest_turn, behind_room}
-use Rattle.gql_tokens.proofs.places.after.Goals as goal
+use Rattle.gql_tokens.proofs.places.after_bytes.Goals as goal
 
 pub bytes-preserved : goal.bytes-preserved
 bytes-preserved c =
