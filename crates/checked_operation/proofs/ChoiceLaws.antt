@@ -1,6 +1,6 @@
 -- The operation that is chosen stands at the place that is chosen.
 use Rattle.std.proofs.Common.{◌≡◌, ℕ, List, [], ◌∷◌, refl, ap, sym, subst, ◌∙◌, Bool, true, false, cond}
-use Rattle.std.specs.Prelude.{Option, Some, None, is_some, is_none, slice_get, position}
+use Rattle.std.specs.Prelude.{Option, Some, None, is_some, is_none, slice_get}
 use Rattle.std.specs.Option.{option_and_then}
 use Rattle.std.specs.List.{find, flat_map}
 use Rattle.std.proofs.lemmas.Iterator.Adapters.{position_from-zero}

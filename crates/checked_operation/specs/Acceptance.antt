@@ -1,5 +1,5 @@
 -- What it is that `check` accepts an operation: the condition of all that is asked of a checked operation.
-use Rattle.std.specs.Prelude.{◌≡◌, ℕ, Bool, true, List, [], ◌∷◌, Option, Some, None, is_some, slice_get}
+use Rattle.std.specs.Prelude.{◌≡◌, ℕ, true, List, [], ◌∷◌, Option, Some, None, is_some, slice_get}
 use Rattle.std.specs.Option.{option_map_or}
 use Rattle.gql_model.specs.declared.document.Document.{Document}
 use Rattle.schema_model.specs.declared.schema.Schema.{Schema}
