@@ -34,7 +34,7 @@ pub fn check(
 
 /// Keeps the operation that is chosen.
 fn chosen(alloc: Global, document: Document, name: Option<&Text>) -> Result<Checked, Memory>
-    requires { is_some (option_and_then (operation_at document) (chosen_place document (option_copied name.entry))) ≡ true }
+    requires { is_some (option_and_then (operation_at document) (chosen_place document (option_copied name))) ≡ true }
     ensures document { IfOk result (λ checked. checked.document ≡ document) }
     ensures place { IfOk result (λ checked. chosen_place document (option_copied name.entry) ≡ Some checked.place) }
     ensures whole { IfOk result (λ checked. IsWhole checked) }
