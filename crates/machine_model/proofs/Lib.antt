@@ -1,0 +1,6 @@
+mod Lists
+mod MapLaws
+mod Silence
+mod SilentCommands
+mod RunLaws
+mod Readings
