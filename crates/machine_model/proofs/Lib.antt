@@ -4,3 +4,4 @@ mod Silence
 mod SilentCommands
 mod RunLaws
 mod Readings
+mod ClosedTickets

@@ -1,6 +1,7 @@
 -- Where no item passes a test.
 use Rattle.std.proofs.Common.{◌≡◌, Bool, true, false, cond, not, ◌||◌, List, [], ◌∷◌, ◌++◌, map, filter, flat_map, find, Option, Some, None, is_some, refl, true≢false}
 use Rattle.std.specs.List.{list_any}
+use Rattle.std.specs.Option.{option_map_or}
 
 pub or_split : (a b : Bool) → (a || b) ≡ false → (a ≡ false) × (b ≡ false)
 or_split true b h = absurd (true≢false h)
@@ -64,3 +65,14 @@ found false a x r e = e
 pub find_any : {X : Type 0} (f : X → Bool) (xs : List X) → is_some (find f xs) ≡ list_any f xs
 find_any f [] = refl
 find_any f (x ∷ xs) = found (f x) (list_any f xs) x (find f xs) (find_any f xs)
+
+found_not : {X : Type 0} (q : X → Bool) (b : Bool) (x : X) (r : Option X) → q x ≡ false → option_map_or q r false ≡ false → option_map_or q (cond b (Some x) r) false ≡ false
+found_not q true x r a e = a
+found_not q false x r a e = e
+
+-- what is found doesn't pass another test that none passes
+pub find_not : {X : Type 0} (q f : X → Bool) (xs : List X) → list_any q xs ≡ false → option_map_or q (find f xs) false ≡ false
+find_not q f [] a = refl
+find_not q f (x ∷ xs) a =
+    let s = or_split (q x) (list_any q xs) a in
+    found_not q (f x) x (find f xs) s.0 (find_not q f xs s.1)

@@ -1,16 +1,16 @@
 -- What holds of the machine, whatever operations mean.
-use Rattle.std.specs.Prelude.{◌≡◌, ℕ, zero, suc, ◌-◌, ◌≤◌, ◌==◌, ◌&&◌, Bool, false, if◌then◌else◌, List, [], ◌∷◌, ◌++◌, fold, flat_map, Option, Some, None, unwrap_or}
+use Rattle.std.specs.Prelude.{◌≡◌, ℕ, zero, suc, ◌-◌, ◌<◌, ◌≤◌, ◌==◌, ◌&&◌, Bool, false, if◌then◌else◌, List, [], ◌∷◌, ◌++◌, fold, flat_map, length, slice_index_or, Option, Some, None, unwrap_or}
 use Rattle.std.specs.Option.{option_or}
 use Rattle.std.specs.List.{list_any, AllByRecursion}
 use Rattle.cache_model.specs.declared.write.Write.{Write}
 use Rattle.cache_model.specs.declared.kind.Kind.{Kind}
 use Rattle.cache_model.specs.Maps.{CellMap, effect}
-use Rattle.cache_model.specs.History.{History, Content, filled, finished, flattened}
+use Rattle.cache_model.specs.History.{History, Content, no_content, filled, finished, flattened}
 use Rattle.machine_model.specs.declared.command.Command.{Command}
 use Rattle.machine_model.specs.declared.output.Out.{Out}
 use Rattle.machine_model.specs.declared.output.Out.TheVariants as out
 use Rattle.machine_model.specs.Operations.{Meaning}
-use Rattle.machine_model.specs.State.{GatewayState, Listening, query, mutation, Job, is_live}
+use Rattle.machine_model.specs.State.{GatewayState, OpenFetch, PendingMutation, Listening, query, mutation, Job, is_live}
 use Rattle.machine_model.specs.FollowUps.{is_waiting_for}
 use Rattle.machine_model.specs.Steps.{Step}
 use Rattle.machine_model.specs.Sequels.{concluded}
@@ -63,6 +63,28 @@ abbrev pub ArrivalsInAnyOrderFlattened : Type 0
 ArrivalsInAnyOrderFlattened = (history : History) (arrivals others : List Arrival) → AreForTickets arrivals → AreForTickets others
     → ((ticket : ℕ) → result_for ticket arrivals ≡ result_for ticket others)
     → (entity field : List ℕ) → flattened (all_arrived history arrivals) entity field ≡ flattened (all_arrived history others) entity field
+
+-- the fetch, or the mutation, is for the ticket at this place of the history, counted from 0
+abbrev pub is_fetch_at : {O : Type 0} → ℕ → OpenFetch O → Bool
+is_fetch_at place fetch = fetch.ticket - 1 == place
+
+abbrev pub is_mutation_at : {O : Type 0} → ℕ → PendingMutation O → Bool
+is_mutation_at place pending = pending.ticket - 1 == place
+
+-- this is the content of the ticket at a place, and neither a fetch nor a mutation is open for it any more
+pub record IsClosedIn {O : Type 0} (place : ℕ) (content : Content) (history : History) (fetches : List (OpenFetch O)) (mutations : List (PendingMutation O)) : Type 0 where
+  pub drawn : place < length history
+  pub is : slice_index_or history place no_content ≡ content
+  pub unsent : list_any (is_fetch_at place) fetches ≡ false
+  pub answered : list_any (is_mutation_at place) mutations ≡ false
+
+abbrev pub IsClosed : {O : Type 0} → ℕ → Content → GatewayState O → Type 0
+IsClosed place content state = IsClosedIn place content state.history state.fetches state.mutations
+
+-- every command leaves it so: what was emptied or finished never comes back, and a ticket never moves
+abbrev pub ClosedTicketsStay : Type 0 → Type 0
+ClosedTicketsStay O = (meaning : Meaning O) (job : Job) (state : GatewayState O) (place : ℕ) (content : Content)
+    → IsClosed place content state → IsClosed place content (command_step meaning job state).state
 
 -- ---- silence
 
