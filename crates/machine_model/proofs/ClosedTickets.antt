@@ -1,6 +1,5 @@
 -- What a ticket holds for which nothing is open stays for good.
-use Rattle.std.proofs.Common.{◌≡◌, ◌≢◌, ℕ, zero, suc, ◌+◌, ◌-◌, ◌<◌, ◌==◌, ◌&&◌, Bool, true, false, cond, not, nat_le, if◌then◌else◌, List, [], ◌∷◌, ◌++◌, map, filter, find, length, get_or, set, is_some, Option, Some, None, Result, Ok, Err, refl, sym, ap, ◌∙◌, subst, arith, length-append, length-set, get_or-set_other, true-eqb, false-eqb}
-use Rattle.std.specs.List.{list_any}
+use Rattle.std.proofs.Common.{◌≡◌, ◌≢◌, ℕ, zero, suc, ◌+◌, ◌-◌, ◌<◌, ◌==◌, ◌&&◌, Bool, true, false, not, nat_le, if◌then◌else◌, List, [], ◌∷◌, ◌++◌, filter, find, length, get_or, set, is_some, Option, Some, None, Result, Ok, Err, refl, sym, ◌∙◌, arith, length-append, length-set, get_or-set_other, true-eqb, false-eqb}
 use Rattle.std.specs.Option.{option_map_or}
 use Rattle.gql_model.specs.declared.executable.OperationKind.{OperationKind}
 use Rattle.gql_model.specs.declared.executable.OperationKind.TheVariants as kind
@@ -24,16 +23,16 @@ use Rattle.machine_model.specs.declared.output.Refusal.{Refusal}
 use Rattle.machine_model.specs.declared.output.Refusal.TheVariants as refusal
 use Rattle.machine_model.specs.Operations.{Meaning, Identity}
 use Rattle.machine_model.specs.State.{GatewayState, LiveOperation, LiveQuery, Listening, query, mutation, OpenFetch, PendingMutation, Job, is_named, is_live, is_for_key, is_sent, next_ticket}
-use Rattle.machine_model.specs.Steps.{Step, Change, Sequel, stops, issues, reevaluates, unmoved, refused, made, followed_by}
+use Rattle.machine_model.specs.Steps.{Step, Change, Sequel, stops, issues, reevaluates, unmoved, refused, followed_by}
 use Rattle.machine_model.specs.Telling.{Turn}
 use Rattle.machine_model.specs.Reevaluation.{reevaluated}
 use Rattle.machine_model.specs.Issue.{is_network_only, with_ticket, may_be_sent, query_sent, issued_for, issued_over, sent}
 use Rattle.machine_model.specs.Sequels.{followed, concluded}
-use Rattle.machine_model.specs.Queries.{Sender, live_as, with_live, awaiting, query_read, query_added, key_of, with_identity, query_dispatched}
-use Rattle.machine_model.specs.Mutations.{guessed, with_mutation, begun_and_sent, mutation_dispatched}
-use Rattle.machine_model.specs.Teardowns.{has_listener, closed, forgotten, nothing_forgotten, key_left, left_behind, torn_down, torn_where_live, teardown, all_torn_down, gone, without_named}
-use Rattle.machine_model.specs.Responses.{query_failed, query_written, query_answered, without_mutation, row_done, over, mutation_failed, mutation_written, has_row_number, is_full, in_row, mutation_queued, mutation_put, mutation_unreached, mutation_ended, mutation_answered, pending_of, fetch_answered, answered_where_open, response}
-use Rattle.machine_model.specs.Rows.{is_in_row, sent_again, rows_sent_again, online}
+use Rattle.machine_model.specs.Queries.{Sender, live_as, with_live, awaiting, query_read, query_added, key_of, with_identity}
+use Rattle.machine_model.specs.Mutations.{guessed, with_mutation}
+use Rattle.machine_model.specs.Teardowns.{has_listener, closed, forgotten, nothing_forgotten, key_left, left_behind, torn_down, torn_where_live, teardown, all_torn_down, without_named}
+use Rattle.machine_model.specs.Responses.{query_written, query_answered, without_mutation, row_done, over, mutation_failed, mutation_written, has_row_number, is_full, in_row, mutation_queued, mutation_put, mutation_unreached, mutation_ended, mutation_answered, pending_of, fetch_answered, answered_where_open, response}
+use Rattle.machine_model.specs.Rows.{is_in_row, sent_again, rows_sent_again}
 use Rattle.machine_model.specs.Commands.{most_live, refused_frame, taken, taken_or_refused, sender_of, dispatched, step_of, command_step}
 use Rattle.machine_model.specs.Laws.{is_fetch_at, is_mutation_at, IsClosedIn, IsClosed}
 use Rattle.machine_model.proofs.Lists.{or_join, any_append, any_filter, any_map, find_not}
@@ -117,9 +116,9 @@ mutations_left place c h f m test a = record { drawn = a.drawn; is = a.is; unsen
 closed_query_sent : {O : Type 0} (place : ℕ) (c : Content) (m : Meaning O) (l : LiveQuery O) (s : GatewayState O) → IsClosed place c s → IsClosed place c (query_sent m l s).state
 closed_query_sent place c m l s a =
     fetch_opened place c (s.history ++ no_content ∷ []) s.fetches s.mutations
-        (record { number = s.next_fetch; ticket = next_ticket s; key = Some l.key; operation = l.operation })
-        (new_elsewhere place (length s.history) a.drawn)
-        (drawn_more place c s.history s.fetches s.mutations a)
+    (record { number = s.next_fetch; ticket = next_ticket s; key = Some l.key; operation = l.operation })
+    (new_elsewhere place (length s.history) a.drawn)
+    (drawn_more place c s.history s.fetches s.mutations a)
 
 closed_if : {O : Type 0} (place : ℕ) (c : Content) (b : Bool) (x y : Step O) → IsClosed place c x.state → IsClosed place c y.state → IsClosed place c (if b then x else y).state
 closed_if place c true x y a b = a
@@ -162,19 +161,21 @@ closed_begun {O} place c m operation row s guess a =
   where
     new : (suc (length s.history) - 1 == place) ≡ false
     new = new_elsewhere place (length s.history) a.drawn
+
     with_guess : (g : Option (List Write)) → IsClosed place c (guessed (next_ticket s) g (with_ticket s))
     with_guess None = drawn_more place c s.history s.fetches s.mutations a
     with_guess (Some writes) =
         set_elsewhere place c (s.history ++ no_content ∷ []) s.fetches s.mutations (next_ticket s - 1) (record { kind = Optimistic; finished = false; writes = writes })
-            (elsewhere place (next_ticket s) (new_elsewhere place (length s.history) a.drawn))
-            (drawn_more place c s.history s.fetches s.mutations a)
+        (elsewhere place (next_ticket s) (new_elsewhere place (length s.history) a.drawn))
+        (drawn_more place c s.history s.fetches s.mutations a)
+
     opened : (t : GatewayState O) → IsClosed place c t → IsClosed place c (sent m (next_ticket s) None operation (with_mutation (record { ticket = next_ticket s; row = row; operation = operation }) t)).state
     opened t b =
         fetch_opened place c t.history t.fetches (t.mutations ++ record { ticket = next_ticket s; row = row; operation = operation } ∷ [])
-            (record { number = t.next_fetch; ticket = next_ticket s; key = None; operation = operation })
-            (new_elsewhere place (length s.history) a.drawn)
-            (mutation_opened place c t.history t.fetches t.mutations (record { ticket = next_ticket s; row = row; operation = operation })
-                (new_elsewhere place (length s.history) a.drawn) b)
+        (record { number = t.next_fetch; ticket = next_ticket s; key = None; operation = operation })
+        (new_elsewhere place (length s.history) a.drawn)
+        (mutation_opened place c t.history t.fetches t.mutations (record { ticket = next_ticket s; row = row; operation = operation })
+        (new_elsewhere place (length s.history) a.drawn) b)
 
 closed_taken : {O : Type 0} (place : ℕ) (c : Content) (m : Meaning O) (sender : Sender) (policy : Policy) (operation : O) (s : GatewayState O) (k : OperationKind) → IsClosed place c s → IsClosed place c (taken m sender policy operation s k).state
 closed_taken place c m sender policy operation s kind.Query a =
@@ -194,20 +195,20 @@ closed_dispatched place c m dispatch parts s a =
     let late = taken_or_refused m (sender_of parts) parts.line parts.policy s (m.judged dispatch) in
     let many = refused_frame parts.peer parts.line refusal.E12 s in
     change_if place c (is_live s parts.peer parts.id) (refused_frame parts.peer parts.line refusal.E4 s) (if nat_le most_live (length s.live) then many else late) a
-        (change_if place c (nat_le most_live (length s.live)) many late a (closed_judged place c m (sender_of parts) parts.line parts.policy s (m.judged dispatch) a))
+    (change_if place c (nat_le most_live (length s.live)) many late a (closed_judged place c m (sender_of parts) parts.line parts.policy s (m.judged dispatch) a))
 
 -- ---- teardowns
 
 closed_forgotten : {O : Type 0} (place : ℕ) (c : Content) (s : GatewayState O) (fetch : Option (OpenFetch O)) → option_map_or (is_fetch_at place) fetch false ≡ false → IsClosed place c s → IsClosed place c (option_map_or (forgotten s) fetch (nothing_forgotten s)).state
 closed_forgotten {O} place c s (Some fetch) n a =
     ended_elsewhere place c s.history (filter (λ (other : OpenFetch O). not (other.number == fetch.number)) s.fetches) s.mutations fetch.ticket [] Empty n
-        (fetches_left place c s.history s.fetches s.mutations (λ (other : OpenFetch O). not (other.number == fetch.number)) a)
+    (fetches_left place c s.history s.fetches s.mutations (λ (other : OpenFetch O). not (other.number == fetch.number)) a)
 closed_forgotten place c s None n a = a
 
 closed_left : {O : Type 0} (place : ℕ) (c : Content) (listens : Listening O) (s : GatewayState O) → IsClosed place c s → IsClosed place c (left_behind listens s).state
 closed_left place c (query l) s a =
     change_if place c (has_listener s l.key) (nothing_forgotten s) (key_left l.key s) a
-        (closed_forgotten place c s (find (is_for_key l.key) s.fetches) (find_not (is_fetch_at place) (is_for_key l.key) s.fetches a.unsent) a)
+    (closed_forgotten place c s (find (is_for_key l.key) s.fetches) (find_not (is_fetch_at place) (is_for_key l.key) s.fetches a.unsent) a)
 closed_left place c (mutation ticket) s a = a
 
 closed_where_live : {O : Type 0} (place : ℕ) (c : Content) (peer id line : ℕ) (took_out : Bool) (s : GatewayState O) (live : Option (LiveOperation O)) → IsClosed place c s → IsClosed place c (torn_where_live peer id line took_out s live).state
@@ -219,7 +220,7 @@ closed_all_torn place c m [] s a = a
 closed_all_torn place c m (live ∷ lives) s a =
     let change = torn_down live.peer live.id live.listens s in
     closed_all_torn place c m lives (concluded m change).state
-        (closed_concluded place c m change (closed_left place c live.listens (without_named live.peer live.id s) a))
+    (closed_concluded place c m change (closed_left place c live.listens (without_named live.peer live.id s) a))
 
 -- ---- responses
 
@@ -238,14 +239,14 @@ closed_done place c (Some row) s a = a
 closed_over : {O : Type 0} (place : ℕ) (c : Content) (pending : PendingMutation O) (turn : LiveOperation O → Turn O) (s : GatewayState O) → IsClosed place c s → IsClosed place c (over pending turn s).state
 closed_over {O} place c pending turn s a =
     closed_done place c pending.row (without_mutation pending.ticket s)
-        (mutations_left place c s.history s.fetches s.mutations (λ (other : PendingMutation O). not (other.ticket == pending.ticket)) a)
+    (mutations_left place c s.history s.fetches s.mutations (λ (other : PendingMutation O). not (other.ticket == pending.ticket)) a)
 
 closed_failed : {O : Type 0} (place : ℕ) (c : Content) (m : Meaning O) (pending : PendingMutation O) (ending : Ending) (s : GatewayState O) → is_mutation_at place pending ≡ false → IsClosed place c s → IsClosed place c (mutation_failed m pending ending s).state
 closed_failed {O} place c m pending ending s n a =
     let test = λ (other : PendingMutation O). not (other.ticket == pending.ticket) in
     let before = ended_elsewhere place c s.history s.fetches s.mutations pending.ticket [] Empty n a in
     closed_done place c pending.row (without_mutation pending.ticket (record s { history = finished (filled s.history pending.ticket [] Empty) pending.ticket }))
-        (mutations_left place c (finished (filled s.history pending.ticket [] Empty) pending.ticket) s.fetches s.mutations test before)
+    (mutations_left place c (finished (filled s.history pending.ticket [] Empty) pending.ticket) s.fetches s.mutations test before)
 
 closed_written : {O : Type 0} (place : ℕ) (c : Content) (m : Meaning O) (pending : PendingMutation O) (answer errors : Value) (s : GatewayState O) (written : Result (List Write) (List ℕ)) → is_mutation_at place pending ≡ false → IsClosed place c s → IsClosed place c (mutation_written m pending answer errors s written).state
 closed_written {O} place c m pending answer errors s (Ok writes) n a =
@@ -253,7 +254,7 @@ closed_written {O} place c m pending answer errors s (Ok writes) n a =
     let after = finished (filled s.history pending.ticket all Final) pending.ticket in
     let test = λ (other : PendingMutation O). not (other.ticket == pending.ticket) in
     closed_done place c pending.row (without_mutation pending.ticket (record s { history = after }))
-        (mutations_left place c after s.fetches s.mutations test (ended_elsewhere place c s.history s.fetches s.mutations pending.ticket all Final n a))
+    (mutations_left place c after s.fetches s.mutations test (ended_elsewhere place c s.history s.fetches s.mutations pending.ticket all Final n a))
 closed_written place c m pending answer errors s (Err path) n a = closed_failed place c m pending (Outside (F4 path)) s n a
 
 in_row_if : {O : Type 0} (place row : ℕ) (b : Bool) (pending : PendingMutation O) → is_mutation_at place pending ≡ false → is_mutation_at place (if b then record pending { row = Some row } else pending) ≡ false
@@ -273,13 +274,13 @@ closed_queued place c pending identity s a =
 closed_put : {O : Type 0} (place : ℕ) (c : Content) (m : Meaning O) (pending : PendingMutation O) (identity : Identity) (s : GatewayState O) → is_mutation_at place pending ≡ false → IsClosed place c s → IsClosed place c (mutation_put m pending identity s).state
 closed_put place c m pending identity s n a =
     change_if place c (has_row_number s.rows && is_full s.rows identity) (mutation_failed m pending QueueFull s) (mutation_queued pending identity s)
-        (closed_failed place c m pending QueueFull s n a) (closed_queued place c pending identity s a)
+    (closed_failed place c m pending QueueFull s n a) (closed_queued place c pending identity s a)
 
 closed_unreached : {O : Type 0} (place : ℕ) (c : Content) (m : Meaning O) (pending : PendingMutation O) (row : Option ℕ) (s : GatewayState O) → is_mutation_at place pending ≡ false → IsClosed place c s → IsClosed place c (mutation_unreached m pending row s).state
 closed_unreached place c m pending (Some row) s n a = a
 closed_unreached place c m pending None s n a =
     change_if place c (is_some (m.guess pending.operation)) (mutation_put m pending (m.identity pending.operation) s) (mutation_failed m pending (Outside F6) s)
-        (closed_put place c m pending (m.identity pending.operation) s n a) (closed_failed place c m pending (Outside F6) s n a)
+    (closed_put place c m pending (m.identity pending.operation) s n a) (closed_failed place c m pending (Outside F6) s n a)
 
 closed_ended : {O : Type 0} (place : ℕ) (c : Content) (m : Meaning O) (pending : PendingMutation O) (s : GatewayState O) (fault : Fault) → is_mutation_at place pending ≡ false → IsClosed place c s → IsClosed place c (mutation_ended m pending s fault).state
 closed_ended place c m pending s F6 n a = closed_unreached place c m pending pending.row s n a
@@ -308,14 +309,14 @@ closed_open : {O : Type 0} (place : ℕ) (c : Content) (m : Meaning O) (peer lin
 closed_open place c m peer line o s None n a = a
 closed_open {O} place c m peer line o s (Some fetch) n a =
     closed_fetch place c m fetch o (closed fetch.number s) fetch.key n
-        (fetches_left place c s.history s.fetches s.mutations (λ (other : OpenFetch O). not (other.number == fetch.number)) a)
+    (fetches_left place c s.history s.fetches s.mutations (λ (other : OpenFetch O). not (other.number == fetch.number)) a)
 
 -- ---- rows
 
 closed_sent_again : {O : Type 0} (place : ℕ) (c : Content) (m : Meaning O) (s : GatewayState O) (pending : Option (PendingMutation O)) → option_map_or (is_mutation_at place) pending false ≡ false → IsClosed place c s → IsClosed place c (option_map_or (sent_again m s) pending (unmoved s)).state
 closed_sent_again place c m s (Some pending) n a =
     closed_if place c (is_sent s pending.ticket) (unmoved s) (sent m pending.ticket None pending.operation s) a
-        (fetch_opened place c s.history s.fetches s.mutations (record { number = s.next_fetch; ticket = pending.ticket; key = None; operation = pending.operation }) n a)
+    (fetch_opened place c s.history s.fetches s.mutations (record { number = s.next_fetch; ticket = pending.ticket; key = None; operation = pending.operation }) n a)
 closed_sent_again place c m s None n a = a
 
 closed_rows : {O : Type 0} (place : ℕ) (c : Content) (m : Meaning O) (rows : List Row) (s : GatewayState O) → IsClosed place c s → IsClosed place c (rows_sent_again m rows s).state
@@ -323,7 +324,7 @@ closed_rows place c m [] s a = a
 closed_rows place c m (row ∷ rows) s a =
     let step = option_map_or (sent_again m s) (find (is_in_row row.seq) s.mutations) (unmoved s) in
     closed_rows place c m rows step.state
-        (closed_sent_again place c m s (find (is_in_row row.seq) s.mutations) (find_not (is_mutation_at place) (is_in_row row.seq) s.mutations a.answered) a)
+    (closed_sent_again place c m s (find (is_in_row row.seq) s.mutations) (find_not (is_mutation_at place) (is_in_row row.seq) s.mutations a.answered) a)
 
 -- ---- commands
 
@@ -334,8 +335,8 @@ closed_step place c m took_out s (Command-F.Teardown peer id line) a =
     closed_concluded place c m (teardown peer id line took_out s) (closed_where_live place c peer id line took_out s (find (is_named peer id) s.live) a)
 closed_step {O} place c m took_out s (Command-F.Respond peer fetch line o) a =
     closed_concluded place c m (response m peer fetch line o s)
-        (closed_open place c m peer line o s (find (λ (other : OpenFetch O). other.number == fetch) s.fetches)
-            (find_not (is_fetch_at place) (λ (other : OpenFetch O). other.number == fetch) s.fetches a.unsent) a)
+    (closed_open place c m peer line o s (find (λ (other : OpenFetch O). other.number == fetch) s.fetches)
+    (find_not (is_fetch_at place) (λ (other : OpenFetch O). other.number == fetch) s.fetches a.unsent) a)
 closed_step place c m took_out s Command-F.Online a = closed_rows place c m s.rows.rows s a
 closed_step place c m took_out s (Command-F.Layers peer) a = a
 closed_step place c m took_out s (Command-F.Flat peer) a = a

@@ -1,9 +1,9 @@
 -- The flattened map xs all writes in order, and results in any order of arrival.
-use Rattle.std.proofs.Common.{◌≡◌, ◌≢◌, ℕ, zero, suc, ◌-◌, ◌<◌, ◌≤◌, ◌==◌, Bool, true, false, if◌then◌else◌, List, [], ◌∷◌, ◌++◌, length, get_or, set, flat_map, Option, Some, None, unwrap_or, refl, sym, ap, subst, ◌∙◌, arith, length-set, get_or-set_same, get_or-set_other, ext_get_or, true-eqb, false-eqb}
+use Rattle.std.proofs.Common.{◌≡◌, ◌≢◌, ℕ, suc, ◌-◌, ◌<◌, ◌≤◌, ◌==◌, Bool, true, false, if◌then◌else◌, List, [], ◌∷◌, ◌++◌, length, get_or, set, Option, Some, None, unwrap_or, refl, sym, ap, subst, ◌∙◌, arith, length-set, get_or-set_same, get_or-set_other, ext_get_or, true-eqb, false-eqb}
 use Rattle.std.specs.Option.{option_or}
 use Rattle.cache_model.specs.declared.write.Write.{Write}
 use Rattle.cache_model.specs.Maps.{CellMap, no_cells, applied, all_applied, effect}
-use Rattle.cache_model.specs.History.{History, Content, no_content, with_mark, content_of, filled, flattened, flattened_over}
+use Rattle.cache_model.specs.History.{History, Content, no_content, with_mark, flattened, flattened_over}
 use Rattle.cache_model.proofs.EffectLaws.{applied_by_effect}
 use Rattle.machine_model.specs.Laws.{all_writes, Arrival, arrived, all_arrived, result_for, AreForTickets}
 

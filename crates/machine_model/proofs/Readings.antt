@@ -1,5 +1,5 @@
 -- After each command the last reading of each live query is the one over the flattened map.
-use Rattle.std.proofs.Common.{◌≡◌, ℕ, ◌==◌, ◌&&◌, Bool, true, false, cond, not, nat_le, if◌then◌else◌, List, [], ◌∷◌, ◌++◌, map, filter, find, length, is_some, Option, Some, None, Result, Ok, Err, refl, sym, ap, ◌∙◌, subst, true≢false}
+use Rattle.std.proofs.Common.{◌≡◌, ℕ, ◌==◌, ◌&&◌, Bool, true, false, not, nat_le, if◌then◌else◌, List, [], ◌∷◌, ◌++◌, map, filter, find, length, is_some, Option, Some, None, Result, Ok, Err, refl, sym, ◌∙◌, subst, true≢false}
 use Rattle.std.specs.List.{AllByRecursion}
 use Rattle.std.specs.Option.{option_map_or}
 use Rattle.gql_model.specs.declared.executable.OperationKind.{OperationKind}
@@ -11,30 +11,28 @@ use Rattle.gql_value.specs.declared.outcome.Outcome.{Outcome}
 use Rattle.gql_value.specs.declared.outcome.Outcome.TheVariants as outcome
 use Rattle.cache_model.specs.declared.write.Write.{Write}
 use Rattle.cache_model.specs.Maps.{CellMap, no_cells, all_applied}
-use Rattle.cache_model.specs.History.{History, no_content, reserved, flattened, flattened_over}
+use Rattle.cache_model.specs.History.{History, no_content, flattened, flattened_over}
 use Rattle.send_rules.specs.declared.policy.Policy.{Policy}
 use Rattle.send_rules.specs.Policies.{plan_of}
 use Rattle.queue_model.specs.declared.row.Row.{Row}
 use Rattle.machine_model.specs.declared.command.Command.{Command, out-Command}
 use Rattle.machine_model.specs.declared.command.Command.TheOpen.{Command-F, Dispatch-F}
 use Rattle.machine_model.specs.declared.command.Dispatch.{Dispatch, out-Dispatch}
-use Rattle.machine_model.specs.declared.output.Ending.{Ending}
 use Rattle.machine_model.specs.declared.output.Ending.TheVariants.{Outside, QueueFull}
 use Rattle.machine_model.specs.declared.output.Refusal.{Refusal}
 use Rattle.machine_model.specs.declared.output.Refusal.TheVariants as refusal
-use Rattle.machine_model.specs.Operations.{Meaning, Reading, Identity}
+use Rattle.machine_model.specs.Operations.{Meaning, Identity}
 use Rattle.machine_model.specs.State.{GatewayState, LiveOperation, LiveQuery, Listening, query, mutation, OpenFetch, PendingMutation, Job, is_named, is_live, is_for_key, is_sent}
-use Rattle.machine_model.specs.Steps.{Step, Change, Sequel, stops, issues, reevaluates, Answer, unmoved, refused, and_then, followed_by}
-use Rattle.machine_model.specs.Telling.{Turn, untold, told, all_turned, reply, no_errors, listening_as}
-use Rattle.machine_model.specs.Reevaluation.{reread, reading_now, is_changed, is_due_beside, answered_turn, other_turn, unanswered_turn, query_turn, turn_of, reevaluated}
+use Rattle.machine_model.specs.Steps.{Step, Change, Sequel, stops, issues, reevaluates, Answer, unmoved, refused, followed_by}
+use Rattle.machine_model.specs.Telling.{untold, told, reply, no_errors, listening_as}
+use Rattle.machine_model.specs.Reevaluation.{reread, reading_now, is_changed, is_due_beside, answered_turn, other_turn, unanswered_turn, turn_of, reevaluated}
 use Rattle.machine_model.specs.Readings.{is_miss}
-use Rattle.machine_model.specs.Issue.{is_network_only, with_ticket, not_due, none_due, may_be_sent, query_sent, issued_for, issued_over, issued, sent}
+use Rattle.machine_model.specs.Issue.{is_network_only, not_due, may_be_sent, query_sent, issued_for, issued_over, sent}
 use Rattle.machine_model.specs.Sequels.{followed, concluded}
-use Rattle.machine_model.specs.Queries.{Sender, live_as, with_live, awaiting, read_at_once, read_turn, turned_newest, query_read, query_added, key_of, with_identity, query_dispatched}
-use Rattle.machine_model.specs.Mutations.{mutation_dispatched}
-use Rattle.machine_model.specs.Teardowns.{has_listener, closed, forgotten, nothing_forgotten, key_left, left_behind, torn_down, torn_where_live, teardown, all_torn_down, commands_dropped, gone, without_named}
-use Rattle.machine_model.specs.Responses.{query_failed, query_written, query_answered, over, mutation_failed, mutation_written, has_row_number, is_full, mutation_queued, mutation_put, mutation_unreached, mutation_ended, mutation_answered, pending_of, fetch_answered, answered_where_open, response}
-use Rattle.machine_model.specs.Rows.{is_in_row, sent_again, rows_sent_again, online}
+use Rattle.machine_model.specs.Queries.{Sender, live_as, with_live, awaiting, read_at_once, read_turn, query_read, query_added, key_of, with_identity}
+use Rattle.machine_model.specs.Teardowns.{has_listener, closed, forgotten, nothing_forgotten, key_left, left_behind, torn_down, torn_where_live, teardown, all_torn_down, without_named}
+use Rattle.machine_model.specs.Responses.{query_written, query_answered, mutation_failed, mutation_written, has_row_number, is_full, mutation_queued, mutation_put, mutation_unreached, mutation_ended, mutation_answered, pending_of, fetch_answered, answered_where_open, response}
+use Rattle.machine_model.specs.Rows.{is_in_row, sent_again, rows_sent_again}
 use Rattle.machine_model.specs.Commands.{most_live, refused_frame, taken, taken_or_refused, sender_of, dispatched, step_of, command_step}
 use Rattle.machine_model.specs.Laws.{IsCurrent, AreCurrent}
 

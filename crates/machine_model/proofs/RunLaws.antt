@@ -1,8 +1,8 @@
 -- A command has one run.
-use Rattle.std.proofs.Common.{◌≡◌, ℕ, zero, suc, ◌+◌, List, [], ◌∷◌, ◌++◌, refl, sym, ap, ◌∙◌, subst, arith, add_comm}
+use Rattle.std.proofs.Common.{◌≡◌, ℕ, zero, suc, ◌+◌, [], ◌++◌, refl, sym, ap, ◌∙◌, subst, arith, add_comm}
 use Rattle.machine_model.specs.declared.command.Command.{Command}
 use Rattle.machine_model.specs.Operations.{Meaning}
-use Rattle.machine_model.specs.State.{GatewayState, Job}
+use Rattle.machine_model.specs.State.{GatewayState}
 use Rattle.machine_model.specs.Steps.{Step, unmoved, and_then}
 use Rattle.machine_model.specs.Runs.{first_taken, command_taken, commands_taken, with_command, IsRun}
 

@@ -1,11 +1,10 @@
 -- What follows a change tells nothing to an operation that isn't live, and lets none become live.
-use Rattle.std.proofs.Common.{◌≡◌, ℕ, ◌==◌, ◌&&◌, ◌||◌, Bool, true, false, cond, not, if◌then◌else◌, List, [], ◌∷◌, ◌++◌, map, flat_map, Option, Some, None, refl, ◌∙◌}
+use Rattle.std.proofs.Common.{◌≡◌, ℕ, ◌==◌, ◌&&◌, Bool, true, false, not, if◌then◌else◌, List, [], ◌∷◌, Option, Some, None, refl}
 use Rattle.std.specs.List.{list_any}
-use Rattle.gql_value.specs.declared.value.Value.{Value}
 use Rattle.machine_model.specs.declared.output.Out.{Out}
 use Rattle.machine_model.specs.Operations.{Meaning, Reading}
 use Rattle.machine_model.specs.State.{GatewayState, LiveOperation, LiveQuery, Listening, query, mutation, is_named, is_live}
-use Rattle.machine_model.specs.Steps.{Step, Change, Sequel, stops, issues, reevaluates, Answer, unmoved, and_then, made, followed_by}
+use Rattle.machine_model.specs.Steps.{Step, Change, Sequel, stops, issues, reevaluates, Answer, unmoved, and_then, made}
 use Rattle.machine_model.specs.Telling.{Turn, untold, told, all_turned, reply, no_errors, listening_as}
 use Rattle.machine_model.specs.Reevaluation.{reread, reading_now, is_changed, is_due_after_answer, is_due_beside, answered_turn, other_turn, unanswered_turn, query_turn, turn_of, reevaluated}
 use Rattle.machine_model.specs.Readings.{is_miss}

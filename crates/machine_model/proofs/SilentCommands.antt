@@ -1,5 +1,5 @@
 -- No command but its dispatch tells anything to an operation that isn't live.
-use Rattle.std.proofs.Common.{◌≡◌, ℕ, zero, suc, ◌+◌, ◌==◌, ◌&&◌, Bool, true, false, not, nat_le, if◌then◌else◌, List, [], ◌∷◌, ◌++◌, filter, find, length, is_some, Option, Some, None, Result, Ok, Err, refl, sym, ◌∙◌, true≢false}
+use Rattle.std.proofs.Common.{◌≡◌, ℕ, zero, suc, ◌+◌, ◌==◌, ◌&&◌, Bool, true, false, not, nat_le, if◌then◌else◌, List, [], ◌∷◌, ◌++◌, filter, find, length, is_some, Option, Some, None, Result, Ok, Err, refl, sym}
 use Rattle.std.specs.List.{list_any}
 use Rattle.std.specs.Option.{option_map_or}
 use Rattle.gql_model.specs.declared.executable.OperationKind.{OperationKind}
@@ -26,19 +26,19 @@ use Rattle.machine_model.specs.declared.output.Refusal.TheVariants as refusal
 use Rattle.machine_model.specs.Operations.{Meaning, Identity}
 use Rattle.machine_model.specs.State.{GatewayState, LiveOperation, LiveQuery, Listening, query, mutation, OpenFetch, PendingMutation, Job, is_named, is_live, is_for_key, is_sent, next_ticket}
 use Rattle.machine_model.specs.FollowUps.{dispatches, is_waiting_for}
-use Rattle.machine_model.specs.Steps.{Step, Change, unmoved, refused, and_then, made, followed_by, stops, issues, reevaluates, settled_with, emptied}
-use Rattle.machine_model.specs.Telling.{Turn, untold, told, all_turned, reply, no_errors, faulted, listening_as, listens_to, turn_of_listener, listener_turned, without_listener}
+use Rattle.machine_model.specs.Steps.{Change, unmoved, refused, made, followed_by, stops, settled_with, emptied}
+use Rattle.machine_model.specs.Telling.{Turn, untold, told, reply, no_errors, faulted, listening_as, listens_to, turn_of_listener, listener_turned, without_listener}
 use Rattle.machine_model.specs.Reevaluation.{reread, reading_now}
 use Rattle.machine_model.specs.Issue.{is_network_only, with_ticket, sent}
 use Rattle.machine_model.specs.Sequels.{concluded}
 use Rattle.machine_model.specs.Queries.{Sender, live_as, with_live, awaiting, read_at_once, read_turn, turned_newest, query_read, query_added, key_of, with_identity, query_dispatched}
 use Rattle.machine_model.specs.Mutations.{guessed, begun_and_sent, mutation_dispatched}
 use Rattle.machine_model.specs.Teardowns.{without_named, has_listener, closed, forgotten, nothing_forgotten, key_left, left_behind, torn_down, torn_where_live, teardown, all_torn_down, commands_dropped, gone}
-use Rattle.machine_model.specs.Responses.{fault_turn, all_faulted, query_failed, query_written, query_answered, without_mutation, row_done, over, mutation_failed, answer_turn, mutation_written, has_row_number, is_full, with_row, queued_turn, mutation_queued, mutation_put, mutation_unreached, mutation_ended, mutation_answered, pending_of, fetch_answered, answered_where_open, response}
-use Rattle.machine_model.specs.Rows.{is_in_row, sent_again, rows_sent_again, online}
+use Rattle.machine_model.specs.Responses.{fault_turn, query_failed, query_written, query_answered, without_mutation, row_done, over, mutation_failed, answer_turn, mutation_written, has_row_number, is_full, with_row, queued_turn, mutation_queued, mutation_put, mutation_unreached, mutation_ended, mutation_answered, pending_of, fetch_answered, answered_where_open, response}
+use Rattle.machine_model.specs.Rows.{is_in_row, sent_again, rows_sent_again}
 use Rattle.machine_model.specs.Commands.{most_live, refused_frame, taken, taken_or_refused, sender_of, dispatched, step_of, command_step}
 use Rattle.machine_model.specs.Runs.{first_taken, command_taken, commands_taken}
-use Rattle.machine_model.specs.Laws.{tells, IsSilent, first_of, taken_commands}
+use Rattle.machine_model.specs.Laws.{IsSilent, first_of, taken_commands}
 use Rattle.machine_model.proofs.Lists.{or_split, or_join, any_append, any_front, any_rest, any_filter, any_filter_not, find_any}
 use Rattle.machine_model.proofs.Silence.{silent_unmoved, silent_if, silent_then, IsQuiet, quiet_untold, quiet_told, quiet_if, silent_turned, silent_concluded}
 

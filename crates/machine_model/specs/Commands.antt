@@ -1,5 +1,5 @@
 -- What one command does: the step of the machine.
-use Rattle.std.specs.Prelude.{ℕ, Bool, nat_le, if◌then◌else◌, List, length, Option, Result}
+use Rattle.std.specs.Prelude.{ℕ, Bool, nat_le, if◌then◌else◌, length, Result}
 use Rattle.std.specs.declared.result.Result.TheVariants.{Ok, Err}
 use Rattle.gql_model.specs.declared.executable.OperationKind.{OperationKind}
 use Rattle.gql_model.specs.declared.executable.OperationKind.TheVariants as kind

@@ -8,7 +8,7 @@ use Rattle.std.specs.declared.cmp.Ordering.{Ordering}
 use Rattle.text_types.specs.Texts.{text_cmp}
 use Rattle.cache_model.specs.declared.write.Write.{Write}
 use Rattle.cache_model.specs.declared.write.Write.TheVariants.{Set, Drop, DropName, DropAll}
-use Rattle.cache_model.specs.History.{History, Content, flattened}
+use Rattle.cache_model.specs.History.{History, flattened}
 use Rattle.cache_model.specs.Listing.{Row}
 use Rattle.machine_model.specs.declared.output.Out.TheVariants as out
 use Rattle.machine_model.specs.Operations.{Places}

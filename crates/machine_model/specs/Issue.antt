@@ -1,13 +1,12 @@
 -- The issue of due fetches: which live queries are sent to the origin, under which numbers (after urql's dedupExchange and Graphcache).
-use Rattle.std.specs.Prelude.{ℕ, ◌+◌, ◌==◌, ◌&&◌, ◌||◌, Bool, true, false, not, if◌then◌else◌, List, [], ◌∷◌, ◌++◌, map, Option, Some, None}
-use Rattle.gql_model.specs.declared.executable.OperationKind.{OperationKind}
+use Rattle.std.specs.Prelude.{ℕ, ◌+◌, ◌==◌, ◌&&◌, ◌||◌, Bool, true, false, not, if◌then◌else◌, List, [], ◌∷◌, ◌++◌, map, Option, Some}
 use Rattle.cache_model.specs.History.{reserved, is_blocked}
 use Rattle.send_rules.specs.declared.policy.Policy.{Policy}
-use Rattle.send_rules.specs.declared.policy.Policy.TheVariants.{CacheFirst, CacheOnly, NetworkOnly, CacheAndNetwork}
+use Rattle.send_rules.specs.declared.policy.Policy.TheVariants.{NetworkOnly}
 use Rattle.machine_model.specs.declared.output.Out.{Out}
 use Rattle.machine_model.specs.declared.output.Out.TheVariants as out
-use Rattle.machine_model.specs.Operations.{Meaning, Request}
-use Rattle.machine_model.specs.State.{GatewayState, LiveOperation, LiveQuery, Listening, query, mutation, OpenFetch, is_in_flight, next_ticket}
+use Rattle.machine_model.specs.Operations.{Meaning}
+use Rattle.machine_model.specs.State.{GatewayState, LiveOperation, LiveQuery, Listening, query, mutation, is_in_flight, next_ticket}
 use Rattle.machine_model.specs.Steps.{Step, unmoved, given, and_then}
 use Rattle.machine_model.specs.Telling.{listening_as}
 use Rattle.machine_model.specs.Reevaluation.{reading_now}

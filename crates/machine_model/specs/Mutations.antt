@@ -4,7 +4,7 @@ use Rattle.cache_model.specs.declared.write.Write.{Write}
 use Rattle.cache_model.specs.declared.kind.Kind.TheVariants.{Optimistic}
 use Rattle.cache_model.specs.History.{filled}
 use Rattle.machine_model.specs.Operations.{Meaning}
-use Rattle.machine_model.specs.State.{GatewayState, PendingMutation, Listening, mutation, next_ticket}
+use Rattle.machine_model.specs.State.{GatewayState, PendingMutation, mutation, next_ticket}
 use Rattle.machine_model.specs.Steps.{Step, Change, followed_by, reevaluates}
 use Rattle.machine_model.specs.Issue.{with_ticket, sent}
 use Rattle.machine_model.specs.Queries.{Sender, live_as, with_live}

@@ -1,5 +1,5 @@
 -- The dispatch of a query: by its policy it is told what the cache has, sent, or both (urql, request policies).
-use Rattle.std.specs.Prelude.{ℕ, suc, ◌&&◌, Bool, true, false, if◌then◌else◌, List, [], ◌∷◌, ◌++◌, length, Option, Some, None, unwrap_or, position, bytes_eq}
+use Rattle.std.specs.Prelude.{ℕ, ◌&&◌, Bool, true, false, if◌then◌else◌, List, [], ◌∷◌, ◌++◌, length, Some, unwrap_or, position, bytes_eq}
 use Rattle.std.specs.Option.{is_none}
 use Rattle.gql_value.specs.declared.value.Value.{roll-Value}
 use Rattle.gql_value.specs.declared.value.Value.TheOpen.{Value-F}

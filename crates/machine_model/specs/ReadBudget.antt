@@ -1,20 +1,20 @@
 -- How many cells a step may look at: those of the queries that it concerns, and not of every live query.
 use Rattle.std.specs.Prelude.{ℕ, zero, suc, ◌+◌, ◌==◌, ◌&&◌, ◌||◌, Bool, false, not, nat_lt, if◌then◌else◌, List, [], ◌∷◌, sum_by, filter, length, Option, Some, None}
 use Rattle.std.specs.List.{list_any, last_or}
-use Rattle.std.specs.Option.{option_map, option_map_or}
+use Rattle.std.specs.Option.{option_map_or}
 use Rattle.cache_model.specs.History.{Content, content_of, touches}
 use Rattle.machine_model.specs.declared.command.Command.{Command, out-Command}
 use Rattle.machine_model.specs.declared.command.Command.TheOpen.{Command-F}
 use Rattle.machine_model.specs.declared.command.Dispatch.{Dispatch, out-Dispatch}
-use Rattle.machine_model.specs.Operations.{Meaning, Places, Reading}
+use Rattle.machine_model.specs.Operations.{Meaning, Places}
 use Rattle.machine_model.specs.State.{GatewayState, LiveOperation, LiveQuery, Listening, query, mutation, OpenFetch, Job}
-use Rattle.machine_model.specs.Steps.{Step, Change, Sequel, stops, issues, reevaluates, Answer}
+use Rattle.machine_model.specs.Steps.{Change, Sequel, stops, issues, reevaluates, Answer}
 use Rattle.machine_model.specs.Reevaluation.{reading_now, is_answer_for}
 use Rattle.machine_model.specs.Sequels.{concluded}
 use Rattle.machine_model.specs.Teardowns.{torn_down, teardown, listens_for}
 use Rattle.machine_model.specs.Responses.{response}
 use Rattle.machine_model.specs.Inspection.{cells_of}
-use Rattle.machine_model.specs.Commands.{dispatched, command_step}
+use Rattle.machine_model.specs.Commands.{dispatched}
 use Rattle.machine_model.specs.Runs.{command_taken}
 
 -- a content has a write that covers one of these places

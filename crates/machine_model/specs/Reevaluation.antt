@@ -1,10 +1,9 @@
 -- The re-evaluation of live queries after a change: each is read again over the flattened map, and told where a client sees a difference (after urql's Graphcache; when a query becomes due is this project's own).
 use Rattle.std.specs.Prelude.{ℕ, ◌==◌, ◌&&◌, ◌||◌, Bool, true, false, not, if◌then◌else◌, Option, Some, None}
 use Rattle.std.specs.Option.{option_map_or}
-use Rattle.gql_value.specs.declared.value.Value.{Value}
 use Rattle.cache_model.specs.History.{flattened, is_shadowed}
 use Rattle.send_rules.specs.declared.policy.Policy.{Policy}
-use Rattle.send_rules.specs.declared.policy.Policy.TheVariants.{CacheFirst, CacheOnly, NetworkOnly, CacheAndNetwork}
+use Rattle.send_rules.specs.declared.policy.Policy.TheVariants.{CacheOnly}
 use Rattle.machine_model.specs.Operations.{Meaning, Reading}
 use Rattle.machine_model.specs.Readings.{same_reading, is_hit, is_miss}
 use Rattle.machine_model.specs.State.{GatewayState, LiveOperation, LiveQuery, Listening, query, mutation}

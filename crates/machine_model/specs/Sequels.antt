@@ -1,5 +1,4 @@
 -- What follows a change: live queries are re-evaluated, and then due fetches are issued.
-use Rattle.std.specs.Prelude.{Option}
 use Rattle.machine_model.specs.Operations.{Meaning}
 use Rattle.machine_model.specs.State.{GatewayState}
 use Rattle.machine_model.specs.Steps.{Step, Change, Sequel, stops, issues, reevaluates, unmoved, and_then, made}

@@ -1,5 +1,5 @@
 -- What live operations are told.
-use Rattle.std.specs.Prelude.{ℕ, ◌==◌, ◌||◌, Bool, true, false, not, if◌then◌else◌, List, [], ◌∷◌, map, filter, flat_map, Option, Some, None}
+use Rattle.std.specs.Prelude.{ℕ, ◌==◌, ◌||◌, Bool, false, not, if◌then◌else◌, List, [], ◌∷◌, map, filter, flat_map, None}
 use Rattle.std.specs.Option.{option_map_or}
 use Rattle.gql_value.specs.declared.value.Value.{Value, roll-Value}
 use Rattle.gql_value.specs.declared.value.Value.TheOpen.{Value-F}
@@ -7,7 +7,7 @@ use Rattle.machine_model.specs.declared.command.Command.{Command}
 use Rattle.machine_model.specs.declared.output.Out.{Out}
 use Rattle.machine_model.specs.declared.output.Out.TheVariants as out
 use Rattle.machine_model.specs.declared.output.Ending.{Ending}
-use Rattle.machine_model.specs.Operations.{Meaning, Reading}
+use Rattle.machine_model.specs.Operations.{Meaning}
 use Rattle.machine_model.specs.Readings.{is_partial}
 use Rattle.machine_model.specs.State.{GatewayState, LiveOperation, LiveQuery, Listening, query, mutation, is_in_flight}
 use Rattle.machine_model.specs.FollowUps.{all_joined}
