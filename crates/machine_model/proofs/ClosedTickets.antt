@@ -34,7 +34,9 @@ use Rattle.machine_model.specs.Teardowns.{has_listener, closed, forgotten, nothi
 use Rattle.machine_model.specs.Responses.{query_written, query_answered, without_mutation, row_done, over, mutation_failed, mutation_written, has_row_number, is_full, in_row, mutation_queued, mutation_put, mutation_unreached, mutation_ended, mutation_answered, pending_of, fetch_answered, answered_where_open, response}
 use Rattle.machine_model.specs.Rows.{is_in_row, sent_again, rows_sent_again}
 use Rattle.machine_model.specs.Commands.{most_live, refused_frame, taken, taken_or_refused, sender_of, dispatched, step_of, command_step}
+use Rattle.machine_model.specs.Runs.{commands_taken}
 use Rattle.machine_model.specs.Laws.{is_fetch_at, is_mutation_at, IsClosedIn, IsClosed}
+use Rattle.machine_model.proofs.RunLaws.{kept_by_runs}
 use Rattle.machine_model.proofs.Lists.{or_join, any_append, any_filter, any_map, find_not}
 
 -- ---- histories
@@ -344,3 +346,7 @@ closed_step {O} place c m took_out s (Command-F.Gone peer) a = closed_all_torn p
 
 pub closed_tickets_stay : {O : Type 0} (m : Meaning O) (job : Job) (s : GatewayState O) (place : ℕ) (c : Content) → IsClosed place c s → IsClosed place c (command_step m job s).state
 closed_tickets_stay m job s place c a = closed_step place c m job.took_out s (out-Command job.command) a
+
+pub closed_tickets_stay_in_runs : {O : Type 0} (n : ℕ) (m : Meaning O) (s : GatewayState O) (place : ℕ) (c : Content) → IsClosed place c s → IsClosed place c (commands_taken n m s).state
+closed_tickets_stay_in_runs {O} n m s place c a =
+    kept_by_runs (λ (state : GatewayState O). IsClosed place c state) m (λ job state jobs b. closed_tickets_stay m job (record state { jobs = jobs }) place c b) n s a

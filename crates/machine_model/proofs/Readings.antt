@@ -34,7 +34,9 @@ use Rattle.machine_model.specs.Teardowns.{has_listener, closed, forgotten, nothi
 use Rattle.machine_model.specs.Responses.{query_written, query_answered, mutation_failed, mutation_written, has_row_number, is_full, mutation_queued, mutation_put, mutation_unreached, mutation_ended, mutation_answered, pending_of, fetch_answered, answered_where_open, response}
 use Rattle.machine_model.specs.Rows.{is_in_row, sent_again, rows_sent_again}
 use Rattle.machine_model.specs.Commands.{most_live, refused_frame, taken, taken_or_refused, sender_of, dispatched, step_of, command_step}
+use Rattle.machine_model.specs.Runs.{commands_taken}
 use Rattle.machine_model.specs.Laws.{IsCurrent, AreCurrent}
+use Rattle.machine_model.proofs.RunLaws.{kept_by_runs}
 
 -- ---- lists
 
@@ -288,3 +290,7 @@ current_step {O} m took_out s (Command-F.Gone peer) c = current_all_torn m (filt
 
 pub readings_stay_current : {O : Type 0} (m : Meaning O) (job : Job) (s : GatewayState O) → AreCurrent m s → AreCurrent m (command_step m job s).state
 readings_stay_current m job s c = current_step m job.took_out s (out-Command job.command) c
+
+pub readings_stay_current_in_runs : {O : Type 0} (n : ℕ) (m : Meaning O) (s : GatewayState O) → AreCurrent m s → AreCurrent m (commands_taken n m s).state
+readings_stay_current_in_runs {O} n m s c =
+    kept_by_runs (λ (state : GatewayState O). AreCurrent m state) m (λ job state jobs b. readings_stay_current m job (record state { jobs = jobs }) b) n s c

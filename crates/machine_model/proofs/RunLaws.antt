@@ -1,9 +1,10 @@
--- A command has one run.
-use Rattle.std.proofs.Common.{◌≡◌, ℕ, zero, suc, ◌+◌, [], ◌++◌, refl, sym, ap, ◌∙◌, subst, arith, add_comm}
+-- A command has one run, and what each command keeps a run keeps.
+use Rattle.std.proofs.Common.{◌≡◌, ℕ, zero, suc, ◌+◌, List, [], ◌∷◌, ◌++◌, refl, sym, ap, ◌∙◌, subst, arith, add_comm}
 use Rattle.machine_model.specs.declared.command.Command.{Command}
 use Rattle.machine_model.specs.Operations.{Meaning}
-use Rattle.machine_model.specs.State.{GatewayState}
+use Rattle.machine_model.specs.State.{GatewayState, Job}
 use Rattle.machine_model.specs.Steps.{Step, unmoved, and_then}
+use Rattle.machine_model.specs.Commands.{command_step}
 use Rattle.machine_model.specs.Runs.{first_taken, command_taken, commands_taken, with_command, IsRun}
 
 -- what a step and a further one come to
@@ -35,3 +36,14 @@ one_run {O} m c s step other a b =
     ∙ ap (λ n. commands_taken n m start) (add_comm b.commands a.commands)
     ∙ more b.commands a.commands m start second
     ∙ sym b.done
+
+kept_by_first : {O : Type 0} (P : GatewayState O → Type 0) (m : Meaning O) → ((job : Job) (s : GatewayState O) (jobs : List Job) → P s → P (command_step m job (record s { jobs = jobs })).state)
+    → (s : GatewayState O) (jobs : List Job) → P s → P (first_taken m s jobs).state
+kept_by_first P m k s [] a = a
+kept_by_first P m k s (job ∷ jobs) a = k job s jobs a
+
+-- what each command keeps, whatever waits behind it, a run keeps
+pub kept_by_runs : {O : Type 0} (P : GatewayState O → Type 0) (m : Meaning O) → ((job : Job) (s : GatewayState O) (jobs : List Job) → P s → P (command_step m job (record s { jobs = jobs })).state)
+    → (n : ℕ) (s : GatewayState O) → P s → P (commands_taken n m s).state
+kept_by_runs P m k zero s a = a
+kept_by_runs P m k (suc n) s a = kept_by_runs P m k n (command_taken m s).state (kept_by_first P m k s s.jobs a)

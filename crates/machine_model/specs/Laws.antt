@@ -86,6 +86,11 @@ abbrev pub ClosedTicketsStay : Type 0 → Type 0
 ClosedTicketsStay O = (meaning : Meaning O) (job : Job) (state : GatewayState O) (place : ℕ) (content : Content)
     → IsClosed place content state → IsClosed place content (command_step meaning job state).state
 
+-- and so does every run
+abbrev pub ClosedTicketsStayInRuns : Type 0 → Type 0
+ClosedTicketsStayInRuns O = (n : ℕ) (meaning : Meaning O) (state : GatewayState O) (place : ℕ) (content : Content)
+    → IsClosed place content state → IsClosed place content (commands_taken n meaning state).state
+
 -- ---- silence
 
 -- the output is told to the operation of this client and this number
@@ -140,6 +145,11 @@ AreCurrent meaning state = AllByRecursion (λ live. IsCurrent meaning (flattened
 abbrev pub ReadingsStayCurrent : Type 0 → Type 0
 ReadingsStayCurrent O = (meaning : Meaning O) (job : Job) (state : GatewayState O)
     → AreCurrent meaning state → AreCurrent meaning (command_step meaning job state).state
+
+-- and so does every run
+abbrev pub ReadingsStayCurrentInRuns : Type 0 → Type 0
+ReadingsStayCurrentInRuns O = (n : ℕ) (meaning : Meaning O) (state : GatewayState O)
+    → AreCurrent meaning state → AreCurrent meaning (commands_taken n meaning state).state
 
 -- ---- runs
 

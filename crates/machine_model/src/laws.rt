@@ -1,7 +1,7 @@
 //! Laws of the machine, which the layers above cite. The functions do nothing. `O` is what a checked
 //! operation is.
 
-ghost use Rattle.machine_model.specs.Laws.{LastWriteCounts, ArrivalsInAnyOrder, ArrivalsInAnyOrderFlattened, SilentUntilDispatched, SilentAtTeardown, SilentRuns, ReadingsStayCurrent, ClosedTicketsStay, OneRun};
+ghost use Rattle.machine_model.specs.Laws.{LastWriteCounts, ArrivalsInAnyOrder, ArrivalsInAnyOrderFlattened, SilentUntilDispatched, SilentAtTeardown, SilentRuns, ReadingsStayCurrent, ReadingsStayCurrentInRuns, ClosedTicketsStay, ClosedTicketsStayInRuns, OneRun};
 
 /// The cache is one plain map after the present results of all operations, in order of first sending.
 pub fn last_write_counts()
@@ -23,12 +23,14 @@ pub fn silent_after_teardown<O>()
 
 /// After each command the last reading of each live query is the one over the flattened map.
 pub fn readings_stay_current<O>()
-    ensures { ReadingsStayCurrent O }
+    ensures command { ReadingsStayCurrent O }
+    ensures run { ReadingsStayCurrentInRuns O }
 {}
 
 /// What a ticket without an open fetch or mutation holds stays for good.
 pub fn closed_tickets_stay<O>()
-    ensures { ClosedTicketsStay O }
+    ensures command { ClosedTicketsStay O }
+    ensures run { ClosedTicketsStayInRuns O }
 {}
 
 /// A command has one run at most.
