@@ -9,3 +9,5 @@ mod faults;
 mod outside;
 #[cfg(test)]
 mod rows;
+#[cfg(test)]
+mod schemas;

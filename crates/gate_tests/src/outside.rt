@@ -29,7 +29,11 @@ pub struct Meets {
     pub failing_read: u64,
     pub failing_write: u64,
     pub has_rules: bool,
+    pub schema: &'static [u8],
 }
+
+/// A schema that is taken.
+const SCHEMA: &[u8] = b"type Query { me: User } type User { id: ID! name: String! }";
 
 /// Nothing fails; no call has the number 0.
 pub const ALL_WELL: Meets = Meets {
@@ -37,6 +41,7 @@ pub const ALL_WELL: Meets = Meets {
     failing_read: 0,
     failing_write: 0,
     has_rules: true,
+    schema: SCHEMA,
 };
 
 /// What a run answers, what it wrote, and how many bytes it took.
@@ -62,14 +67,16 @@ fn bytes_of(alloc: Global, text: &str) -> Result<Bytes, Memory> {
 }
 
 /// A shelf with the schema, and with the rules where they are to be there.
-fn shelf(alloc: Global, has_rules: bool) -> Result<MemoryShelf, Memory> {
+fn shelf(alloc: Global, schema: &[u8], has_rules: bool) -> Result<MemoryShelf, Memory> {
     let name = if has_rules { "none.toml" } else { "other.toml" };
     let mut files = Named::new(alloc);
     let rules = Text::from_str(alloc, name)?;
-    let schema = Text::from_str(alloc, "todo.graphql")?;
+    let schema_name = Text::from_str(alloc, "todo.graphql")?;
+    let mut text = Bytes::new(alloc);
+    text.append(schema)?;
     files.push(rules, Bytes::new(alloc))?;
-    if !schema.is(name) {
-        files.push(schema, Bytes::new(alloc))?;
+    if !schema_name.is(name) {
+        files.push(schema_name, text)?;
     }
     Ok(MemoryShelf::new(files))
 }
@@ -93,7 +100,7 @@ pub fn run(alloc: Global, words: &[&str], input: &str, meets: &Meets) -> Result<
     let failing_writes = Vec::from_array(alloc, [meets.failing_write])?;
     let mut source = FailingSource::new(bytes_of(alloc, input)?, meets.piece, failing_reads);
     let mut sink = FailingSink::new(alloc, ROOM, meets.piece, failing_writes)?;
-    let mut files = shelf(alloc, meets.has_rules)?;
+    let mut files = shelf(alloc, meets.schema, meets.has_rules)?;
     let status = status_of(alloc, words.as_slice(), &mut source, &mut sink, &mut files);
     Ok(Ran {
         status,

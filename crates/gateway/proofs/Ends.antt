@@ -1,34 +1,42 @@
 -- How the run ends in the top call: at a missing file, before its input, or with a stopped line.
 use Rattle.std.proofs.Common.{◌≡◌, ℕ, ◌+◌, ◌<◌, List, [], length, take, Option, Some, refl, sym, subst, inl, inr, arith}
-use Rattle.std.specs.Prelude.{codes}
+use Rattle.std.specs.Prelude.{codes, Err}
 use Rattle.std.specs.Io.KnownBytes.{Appends}
 use Rattle.std.proofs.KnownBytes.{Appends-trans, Appends-nil, Consumes-nil}
 use Rattle.fault_causes.specs.Causes.{Rose}
+use Rattle.gql_schema.specs.declared.error.Refusal.{Refusal}
 use Rattle.gateway.specs.Words.{Names}
-use Rattle.gateway.specs.Files.{IsHeld, IsMissing, IsFirstMissing, MissesFile}
+use Rattle.gateway.specs.Files.{IsMissing, IsSchema, GivesSchema, IsFirstMissing, RefusesFor, StopsAtFile}
 use Rattle.gateway.specs.Lines.{whole_lines_text, first_lines_text, limited_text, full_text}
-use Rattle.gateway.specs.Stopped.{missing_line, limit_line}
+use Rattle.gateway.specs.Stopped.{missing_line, refused_schema_line, limit_line}
 use Rattle.gateway.specs.Run.{WritesFront, Ran, RanFront}
 use Rattle.gateway.proofs.Fronts.{WritesFront-after}
 use Rattle.gateway.proofs.Law.{full_text-past}
 
--- a file is missing
+-- a file is missing, or the schema is refused
 module _ (files : Option (List ℕ → Option (List ℕ))) (old new : ℕ) (words : Option Names) (OfLine : List ℕ → Type 0) (names : Names) (given : words ≡ Some names) where
-  pub no_schema : Rose old new × IsMissing files names.schema → OfLine (missing_line (codes "schema")) → MissesFile files old new words OfLine
-  no_schema missing line = record {
+  pub no_schema : Rose old new × IsMissing files names.schema → OfLine (missing_line (codes "schema")) → StopsAtFile files old new words OfLine
+  no_schema missing line = inl (record {
     file = codes "schema";
     first = subst (λ z. IsFirstMissing files z (codes "schema")) (sym given) (inl (refl, missing.1));
     cause = missing.0;
     line = line;
-  }
+  })
 
-  pub no_rules : Rose old new × (IsHeld files names.schema × IsMissing files names.rules) → OfLine (missing_line (codes "rules")) → MissesFile files old new words OfLine
-  no_rules missing line = record {
+  pub no_rules : Rose old new × (IsSchema files names.schema × IsMissing files names.rules) → OfLine (missing_line (codes "rules")) → StopsAtFile files old new words OfLine
+  no_rules missing line = inl (record {
     file = codes "rules";
     first = subst (λ z. IsFirstMissing files z (codes "rules")) (sym given) (inr (refl, missing.1));
     cause = missing.0;
     line = line;
-  }
+  })
+
+  pub bad_schema : (refusal : Refusal) → GivesSchema files names.schema (Err refusal) → OfLine (refused_schema_line refusal) → StopsAtFile files old new words OfLine
+  bad_schema refusal gives line = inr (record {
+    refusal = refusal;
+    first = subst (λ z. RefusesFor files z refusal) (sym given) gives;
+    line = line;
+  })
 
 module _ {S K : Type 0} (left : S → Option (List ℕ)) (given : S → ℕ) (held : K → Option (List ℕ)) where
   -- nothing was taken or written

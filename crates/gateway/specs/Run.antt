@@ -6,10 +6,6 @@ use Rattle.std.specs.Io.KnownBytes.{Appends, Consumes}
 abbrev pub IsStatus : ℕ → Type 0
 IsStatus status = (status ≡ 0) ⊎ ((status ≡ 2) ⊎ ((status ≡ 3) ⊎ ((status ≡ 4) ⊎ ((status ≡ 5) ⊎ ((status ≡ 7) ⊎ (status ≡ 10))))))
 
--- the most bytes of input that are run
-abbrev pub input_limit : ℕ
-input_limit = 1073741824
-
 -- These bytes were taken from a source: the next of those left, where it tells them, and as many as it
 -- counted.
 pub record Takes {S : Type 0} (left : S → Option (List ℕ)) (given : S → ℕ) (old new : S) (bytes : List ℕ) : Type 0 where

@@ -1,18 +1,24 @@
 //! The files that the words name.
 
-ghost use Rattle.std.specs.Prelude.{◌≡◌, ◌≤◌, OnOk, IsErrOf};
+ghost use Rattle.std.specs.Prelude.{◌≡◌, ◌≤◌, ℕ, OnOk, IsErrOf, Ok, Err};
 ghost use Rattle.fault_causes.specs.Causes.{Rose};
-ghost use Rattle.gateway.specs.Files.{IsHeld, IsMissing};
+ghost use Rattle.schema_model.specs.declared.schema.Schema.{Schema};
+ghost use Rattle.gql_schema.specs.Texts.{schema_in};
+ghost use Rattle.gateway.specs.Files.{IsHeld, IsMissing, IsSchema, GivesSchema};
 
 use crate::words::Names;
 use gate_outside::{Shelf, ShelfError};
+use gql_schema::{SchemaError, read_schema};
 use std::alloc::Global;
+use text_types::Text;
 
 /// Why a run doesn't have all its files.
 #[derive(Debug, Drop)]
 pub(crate) enum FileStop {
     /// No file has the schema's name.
     NoSchema,
+    /// The schema is refused, by the least code that is broken and its least line.
+    BadSchema { code: u8, line: u64 },
     /// No file has the rules' name.
     NoRules,
     /// The shelf failed.
@@ -21,31 +27,80 @@ pub(crate) enum FileStop {
     Memory,
 }
 
-/// Asks for the schema and the rules. Only that they are there counts.
-pub(crate) fn find_files<F: Shelf>(
+/// Reads the schema, and then asks for the rules, of which only that they are there counts as yet.
+pub(crate) fn read_files<F: Shelf>(
     alloc: Global,
     names: &Names<'_>,
     files: &mut F,
 ) -> Result<(), FileStop>
     ensures held { OnOk result
-        (IsHeld (F.holds files.old) names.now.schema.now × IsHeld (F.holds files.old) names.now.rules.now) }
+        (IsSchema (F.holds files.old) names.now.schema.now × IsHeld (F.holds files.old) names.now.rules.now) }
     ensures no_schema { IsErrOf result FileStop.NoSchema →
         Rose (F.missing files.old) (F.missing files.new)
         × IsMissing (F.holds files.old) names.now.schema.now }
+    ensures bad_schema { (code line : ℕ) → IsErrOf result (FileStop.BadSchema code line) →
+        GivesSchema (F.holds files.old) names.now.schema.now (Err (record { code = code; line = line })) }
     ensures no_rules { IsErrOf result FileStop.NoRules →
         Rose (F.missing files.old) (F.missing files.new)
-        × (IsHeld (F.holds files.old) names.now.schema.now
+        × (IsSchema (F.holds files.old) names.now.schema.now
         × IsMissing (F.holds files.old) names.now.rules.now) }
     ensures failed { IsErrOf result FileStop.Shelf → Rose (F.faults files.old) (F.faults files.new) }
     ensures kept { F.holds files.new ≡ F.holds files.old }
 {
-    match files.get(alloc, names.schema) {
-        Ok(_) => {}
-        Err(ShelfError::Missing) => return Err(FileStop::NoSchema),
-        Err(ShelfError::Failed) => return Err(FileStop::Shelf),
-        Err(ShelfError::Memory) => return Err(FileStop::Memory),
+    match read_schema_file(alloc, names.schema, files) {
+        Ok(()) => find_rules(alloc, names.rules, files),
+        Err(stop) => Err(stop),
     }
-    match files.get(alloc, names.rules) {
+}
+
+/// Reads the schema, which isn't kept as yet.
+fn read_schema_file<F: Shelf>(alloc: Global, name: &Text, files: &mut F) -> Result<(), FileStop>
+    ensures held { OnOk result (IsSchema (F.holds files.old) name.now) }
+    ensures missing { IsErrOf result FileStop.NoSchema →
+        Rose (F.missing files.old) (F.missing files.new) × IsMissing (F.holds files.old) name.now }
+    ensures refused { (code line : ℕ) → IsErrOf result (FileStop.BadSchema code line) →
+        GivesSchema (F.holds files.old) name.now (Err (record { code = code; line = line })) }
+    ensures failed { IsErrOf result FileStop.Shelf → Rose (F.faults files.old) (F.faults files.new) }
+    ensures rules { IsErrOf result FileStop.NoRules → ⊥ }
+    ensures missing_later { F.missing files.old ≤ F.missing files.new }
+    ensures faults_later { F.faults files.old ≤ F.faults files.new }
+    ensures kept { F.holds files.new ≡ F.holds files.old }
+{
+    match files.get(alloc, name) {
+        Ok(text) => check_schema(alloc, text.as_slice()),
+        Err(ShelfError::Missing) => Err(FileStop::NoSchema),
+        Err(ShelfError::Failed) => Err(FileStop::Shelf),
+        Err(ShelfError::Memory) => Err(FileStop::Memory),
+    }
+}
+
+/// Whether a text gives a schema.
+fn check_schema(alloc: Global, text: &[u8]) -> Result<(), FileStop>
+    ensures ok { OnOk result ((schema : Schema) × (schema_in text.now ≡ Ok schema)) }
+    ensures refused { (code line : ℕ) → IsErrOf result (FileStop.BadSchema code line) →
+        schema_in text.now ≡ Err (record { code = code; line = line }) }
+    ensures missing { IsErrOf result FileStop.NoSchema → ⊥ }
+    ensures rules { IsErrOf result FileStop.NoRules → ⊥ }
+    ensures failed { IsErrOf result FileStop.Shelf → ⊥ }
+{
+    match read_schema(alloc, text) {
+        Ok(_) => Ok(()),
+        Err(SchemaError::Refused { code, line }) => Err(FileStop::BadSchema { code, line }),
+        Err(SchemaError::Memory) => Err(FileStop::Memory),
+    }
+}
+
+/// Asks for the rules. Only that they are there counts as yet.
+fn find_rules<F: Shelf>(alloc: Global, name: &Text, files: &mut F) -> Result<(), FileStop>
+    ensures held { OnOk result (IsHeld (F.holds files.old) name.now) }
+    ensures missing { IsErrOf result FileStop.NoRules →
+        Rose (F.missing files.old) (F.missing files.new) × IsMissing (F.holds files.old) name.now }
+    ensures failed { IsErrOf result FileStop.Shelf → Rose (F.faults files.old) (F.faults files.new) }
+    ensures schema { IsErrOf result FileStop.NoSchema → ⊥ }
+    ensures refused { (code line : ℕ) → IsErrOf result (FileStop.BadSchema code line) → ⊥ }
+    ensures kept { F.holds files.new ≡ F.holds files.old }
+{
+    match files.get(alloc, name) {
         Ok(_) => Ok(()),
         Err(ShelfError::Missing) => Err(FileStop::NoRules),
         Err(ShelfError::Failed) => Err(FileStop::Shelf),

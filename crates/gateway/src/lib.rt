@@ -1,8 +1,9 @@
 //! The top call: it does all that the program does.
 //!
-//! It stands on the gate, which says what a line of input does, and on the traits of the outside. Its
-//! one contract for the layer above is [`gate_main`]: it says for each exit status when it comes, which
-//! bytes were taken by then and which were written, over any source, sink and shelf.
+//! It stands on the gate, which says what a line of input does, on the reading of schemas, and on the
+//! traits of the outside. Its one contract for the layer above is [`gate_main`]: it says for each exit
+//! status when it comes, which bytes were taken by then and which were written, over any source, sink
+//! and shelf.
 #![tactic(auto)]
 
 mod files;

@@ -4,27 +4,24 @@ ghost use Rattle.std.specs.Prelude.{◌≡◌, ◌+◌, ◌≤◌, ◌↔◌, �
 ghost use Rattle.std.specs.Io.KnownBytes.{Appends, IsAtEnd};
 ghost use Rattle.fault_causes.specs.Causes.{Rose};
 ghost use Rattle.gate_machine.specs.Runs.{run_text};
-ghost use Rattle.gateway.specs.Words.{accepted};
-ghost use Rattle.gateway.specs.Files.{AreHeld, MissesFile};
+ghost use Rattle.gateway.specs.Words.{accepted, input_limit};
+ghost use Rattle.gateway.specs.Files.{AreHeld, StopsAtFile};
 ghost use Rattle.gateway.specs.Lines.{whole_lines_text, first_lines_text, limited_text, full_text};
-ghost use Rattle.gateway.specs.Run.{Ran, RanFront, WritesFront, IsStatus, input_limit};
+ghost use Rattle.gateway.specs.Run.{Ran, RanFront, WritesFront, IsStatus};
 
-use crate::files::{FileStop, find_files};
+use crate::files::{FileStop, read_files};
 use crate::run::run_lines;
 use crate::stop::{LineStop, Stop};
-use crate::stopped::{NO_RULES, NO_SCHEMA, PAST_LIMIT, write_stopped};
+use crate::stopped::{NO_RULES, NO_SCHEMA, PAST_LIMIT, stop_at_schema, write_stopped};
 use crate::words::read_words;
 use gate_outside::{Shelf, Sink, Source};
 use std::alloc::Global;
 use text_types::Text;
 
-/// The most bytes of input that are run.
-const INPUT_LIMIT: usize = 1_073_741_824;
-
 /// Does all that the program does, and gives its exit status: 0 where the input was read to its end, 2
-/// where the words aren't accepted, 3 where the schema's or the rules' file is missing, 4 where the
-/// source or the shelf failed, 5 where the sink failed, 7 without memory, and 10 where the input goes
-/// past its limit.
+/// where the words aren't accepted, 3 where the schema's or the rules' file is missing or the schema is
+/// refused, 4 where the source or the shelf failed, 5 where the sink failed, 7 without memory, and 10
+/// where the input goes past the limit that the words give.
 pub fn gate_main<I: Source, O: Sink, F: Shelf>(
     alloc: Global,
     words: &[Text],
@@ -33,25 +30,25 @@ pub fn gate_main<I: Source, O: Sink, F: Shelf>(
     files: &mut F,
 ) -> u8
     ensures known { IsStatus result }
-    ensures at_most { I.given input.new ≤ I.given input.old + (input_limit + 1) }
+    ensures at_most { I.given input.new ≤ I.given input.old + (input_limit (accepted words.now) + 1) }
     ensures files_first { (input.new ≡ input.old) ⊎ AreHeld (F.holds files.old) (accepted words.now) }
     ensures files_kept { F.holds files.new ≡ F.holds files.old }
-    ensures front { RanFront I.left I.given input.old input.new O.held out.old out.new (full_text input_limit)
-        ⊎ (MissesFile (F.holds files.old) (F.missing files.old) (F.missing files.new) (accepted words.now)
+    ensures front { RanFront I.left I.given input.old input.new O.held out.old out.new (full_text (input_limit (accepted words.now)))
+        ⊎ (StopsAtFile (F.holds files.old) (F.missing files.old) (F.missing files.new) (accepted words.now)
         (WritesFront (O.held out.old) (O.held out.new))
         × (input.new ≡ input.old)) }
     ensures finished { result ≡ 0 →
         Ran I.left I.given input.old input.new O.held out.old out.new run_text }
     ensures finished_end { result ≡ 0 → (I.ended input.new ≡ true) × IsAtEnd (I.left input.new) }
-    ensures finished_within { result ≡ 0 → I.given input.new ≤ I.given input.old + input_limit }
+    ensures finished_within { result ≡ 0 → I.given input.new ≤ I.given input.old + input_limit (accepted words.now) }
     ensures finished_files { result ≡ 0 → AreHeld (F.holds files.old) (accepted words.now) }
     ensures unaccepted { result ≡ 2 ↔ accepted words.now ≡ None }
     ensures unaccepted_untouched { result ≡ 2 →
         (input.new ≡ input.old) × ((out.new ≡ out.old) × (files.new ≡ files.old)) }
-    ensures missing { result ≡ 3 →
-        MissesFile (F.holds files.old) (F.missing files.old) (F.missing files.new) (accepted words.now)
+    ensures stopped { result ≡ 3 →
+        StopsAtFile (F.holds files.old) (F.missing files.old) (F.missing files.new) (accepted words.now)
         (Appends (O.held out.old) (O.held out.new)) }
-    ensures missing_unread { result ≡ 3 → input.new ≡ input.old }
+    ensures stopped_unread { result ≡ 3 → input.new ≡ input.old }
     ensures failed { result ≡ 4 →
         (Rose (I.faults input.old) (I.faults input.new)
         × Ran I.left I.given input.old input.new O.held out.old out.new whole_lines_text)
@@ -61,23 +58,24 @@ pub fn gate_main<I: Source, O: Sink, F: Shelf>(
     ensures memory { result ≡ 7 →
         (count : ℕ)
         × Ran I.left I.given input.old input.new O.held out.old out.new
-        (first_lines_text input_limit count) }
+        (first_lines_text (input_limit (accepted words.now)) count) }
     ensures past_limit { result ≡ 10 →
-        Ran I.left I.given input.old input.new O.held out.old out.new (limited_text input_limit) }
+        Ran I.left I.given input.old input.new O.held out.old out.new (limited_text (input_limit (accepted words.now))) }
     ensures past_limit_given { result ≡ 10 →
-        I.given input.new ≡ I.given input.old + (input_limit + 1) }
+        I.given input.new ≡ I.given input.old + (input_limit (accepted words.now) + 1) }
 {
     let Some(names) = read_words(words) else {
         return 2;
     };
-    match find_files(alloc, &names, files) {
+    match read_files(alloc, &names, files) {
         Ok(()) => {}
         Err(FileStop::NoSchema) => return write_stopped(3, NO_SCHEMA, out),
+        Err(FileStop::BadSchema { code, line }) => return stop_at_schema(alloc, code, line, out),
         Err(FileStop::NoRules) => return write_stopped(3, NO_RULES, out),
         Err(FileStop::Shelf) => return 4,
         Err(FileStop::Memory) => return 7,
     }
-    match run_lines(alloc, INPUT_LIMIT, input, out) {
+    match run_lines(alloc, names.limit, input, out) {
         Ok(()) => 0,
         Err(Stop::Source) => 4,
         Err(Stop::Limit) => write_stopped(10, PAST_LIMIT, out),

@@ -18,7 +18,8 @@ use std::rt::Env;
 use std::{env, io};
 use text_types::{Items, Memory, Text};
 
-const USAGE: &str = "usage: gqlgate run --schema FILE --rules FILE --queue FILE";
+const USAGE: &str =
+    "usage: gqlgate run --schema FILE --rules FILE --queue FILE [--max-input BYTES]";
 
 /// The status of words that aren't accepted.
 const BAD_WORDS: u8 = 2;
