@@ -143,7 +143,7 @@ closed_followed place c m (reevaluates ticket answer) s a =
     let after = (reevaluated m answer s).state in
     closed_issued_over place c m after.live after a
 
-closed_concluded : {O : Type 0} (place : ℕ) (c : Content) (m : Meaning O) (change : Change O) → IsClosed place c change.state → IsClosed place c (concluded m change).state
+pub closed_concluded : {O : Type 0} (place : ℕ) (c : Content) (m : Meaning O) (change : Change O) → IsClosed place c change.state → IsClosed place c (concluded m change).state
 closed_concluded place c m change a = closed_followed place c m change.sequel change.state a
 
 change_if : {O : Type 0} (place : ℕ) (c : Content) (b : Bool) (x y : Change O) → IsClosed place c x.state → IsClosed place c y.state → IsClosed place c (if b then x else y).state

@@ -5,3 +5,4 @@ mod SilentCommands
 mod RunLaws
 mod Readings
 mod ClosedTickets
+mod ClosingAnswers

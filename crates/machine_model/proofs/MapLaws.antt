@@ -20,13 +20,13 @@ last_write_counts h e f =
     ap (λ (m : CellMap). m e f) (flattened_over_writes no_cells h) ∙ applied_by_effect no_cells (all_writes h) e f
 
 -- what a result leaves at its ticket
-abbrev final : Arrival → Content
+abbrev pub final : Arrival → Content
 final a = record { kind = a.kind; finished = true; writes = a.writes }
 
 abbrev unfinished : Arrival → Content
 unfinished a = record { kind = a.kind; finished = false; writes = a.writes }
 
-arrived_here : (h : History) (a : Arrival) → a.ticket - 1 < length h → get_or (arrived h a) (a.ticket - 1) no_content ≡ final a
+pub arrived_here : (h : History) (a : Arrival) → a.ticket - 1 < length h → get_or (arrived h a) (a.ticket - 1) no_content ≡ final a
 arrived_here h a l =
     let i = a.ticket - 1 in
     let filled_here : get_or (set h i (unfinished a)) i no_content ≡ unfinished a = get_or-set_same h i (unfinished a) no_content l in
@@ -40,7 +40,7 @@ arrived_elsewhere h a j n =
     get_or-set_other (set h i (unfinished a)) i j (with_mark (get_or (set h i (unfinished a)) i no_content)) no_content n
     ∙ get_or-set_other h i j (unfinished a) no_content n
 
-length_arrived : (h : History) (a : Arrival) → length (arrived h a) ≡ length h
+pub length_arrived : (h : History) (a : Arrival) → length (arrived h a) ≡ length h
 length_arrived h a =
     let i = a.ticket - 1 in
     length-set (set h i (unfinished a)) i (with_mark (get_or (set h i (unfinished a)) i no_content)) ∙ length-set h i (unfinished a)

@@ -1,7 +1,8 @@
 -- What holds of the machine, whatever operations mean.
-use Rattle.std.specs.Prelude.{◌≡◌, ℕ, zero, suc, ◌-◌, ◌<◌, ◌≤◌, ◌==◌, ◌&&◌, Bool, false, if◌then◌else◌, List, [], ◌∷◌, ◌++◌, fold, flat_map, length, slice_index_or, Option, Some, None, unwrap_or}
+use Rattle.std.specs.Prelude.{◌≡◌, ℕ, zero, suc, ◌-◌, ◌<◌, ◌≤◌, ◌==◌, ◌&&◌, Bool, true, false, if◌then◌else◌, List, [], ◌∷◌, ◌++◌, fold, find, flat_map, length, slice_index_or, Option, Some, None, unwrap_or}
 use Rattle.std.specs.Option.{option_or}
 use Rattle.std.specs.List.{list_any, AllByRecursion}
+use Rattle.gql_value.specs.declared.outcome.Outcome.{Outcome}
 use Rattle.cache_model.specs.declared.write.Write.{Write}
 use Rattle.cache_model.specs.declared.kind.Kind.{Kind}
 use Rattle.cache_model.specs.Maps.{CellMap, effect}
@@ -14,7 +15,8 @@ use Rattle.machine_model.specs.State.{GatewayState, OpenFetch, PendingMutation, 
 use Rattle.machine_model.specs.FollowUps.{is_waiting_for}
 use Rattle.machine_model.specs.Steps.{Step}
 use Rattle.machine_model.specs.Sequels.{concluded}
-use Rattle.machine_model.specs.Teardowns.{teardown}
+use Rattle.machine_model.specs.Teardowns.{closed, teardown}
+use Rattle.machine_model.specs.Responses.{response}
 use Rattle.machine_model.specs.Commands.{command_step}
 use Rattle.machine_model.specs.Runs.{IsRun, command_taken, commands_taken}
 
@@ -90,6 +92,19 @@ ClosedTicketsStay O = (meaning : Meaning O) (job : Job) (state : GatewayState O)
 abbrev pub ClosedTicketsStayInRuns : Type 0 → Type 0
 ClosedTicketsStayInRuns O = (n : ℕ) (meaning : Meaning O) (state : GatewayState O) (place : ℕ) (content : Content)
     → IsClosed place content state → IsClosed place content (commands_taken n meaning state).state
+
+-- the fetch is the open one of its number, its ticket was drawn, and no other fetch and no mutation is for that
+pub record IsAlone {O : Type 0} (fetch : OpenFetch O) (state : GatewayState O) : Type 0 where
+  pub drawn : fetch.ticket - 1 < length state.history
+  pub found : find (λ other. other.number == fetch.number) state.fetches ≡ Some fetch
+  pub unsent : list_any (is_fetch_at (fetch.ticket - 1)) (closed fetch.number state).fetches ≡ false
+  pub answered : list_any (is_mutation_at (fetch.ticket - 1)) state.mutations ≡ false
+
+-- whatever answers the fetch of a query, its ticket is finished and closed
+abbrev pub AnswersClose : Type 0 → Type 0
+AnswersClose O = (meaning : Meaning O) (state : GatewayState O) (fetch : OpenFetch O) (key peer line : ℕ) (outcome : Outcome)
+    → fetch.key ≡ Some key → IsAlone fetch state
+    → (content : Content) × (content.finished ≡ true) × IsClosed (fetch.ticket - 1) content (concluded meaning (response meaning peer fetch.number line outcome state)).state
 
 -- ---- silence
 

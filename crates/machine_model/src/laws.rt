@@ -1,7 +1,7 @@
 //! Laws of the machine, which the layers above cite. The functions do nothing. `O` is what a checked
 //! operation is.
 
-ghost use Rattle.machine_model.specs.Laws.{LastWriteCounts, ArrivalsInAnyOrder, ArrivalsInAnyOrderFlattened, SilentUntilDispatched, SilentAtTeardown, SilentRuns, ReadingsStayCurrent, ReadingsStayCurrentInRuns, ClosedTicketsStay, ClosedTicketsStayInRuns, OneRun};
+ghost use Rattle.machine_model.specs.Laws.{LastWriteCounts, ArrivalsInAnyOrder, ArrivalsInAnyOrderFlattened, SilentUntilDispatched, SilentAtTeardown, SilentRuns, ReadingsStayCurrent, ReadingsStayCurrentInRuns, ClosedTicketsStay, ClosedTicketsStayInRuns, AnswersClose, OneRun};
 
 /// The cache is one plain map after the present results of all operations, in order of first sending.
 pub fn last_write_counts()
@@ -31,6 +31,11 @@ pub fn readings_stay_current<O>()
 pub fn closed_tickets_stay<O>()
     ensures command { ClosedTicketsStay O }
     ensures run { ClosedTicketsStayInRuns O }
+{}
+
+/// After its answer the ticket of a query is finished and closed.
+pub fn answers_close<O>()
+    ensures { AnswersClose O }
 {}
 
 /// A command has one run at most.

@@ -15,7 +15,7 @@ mod output;
 
 pub use command::{Command, Commands, Dispatch, Told};
 pub use laws::{
-    arrivals_in_any_order, closed_tickets_stay, last_write_counts, one_run, readings_stay_current,
-    silent_after_teardown,
+    answers_close, arrivals_in_any_order, closed_tickets_stay, last_write_counts, one_run,
+    readings_stay_current, silent_after_teardown,
 };
 pub use output::{Ending, Out, Outs, Refusal, Stop, Tickets};
