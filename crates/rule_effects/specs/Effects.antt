@@ -1,9 +1,8 @@
 -- What rules write to the cache (after the updates and optimistic results of urql's Graphcache). No rule reads the cache.
 use Rattle.std.specs.Prelude.{ℕ, nat_lt, Bool, false, List, [], ◌∷◌, ◌++◌, map, Option, Some, None, is_some, cond, codes, bytes_eq}
 use Rattle.std.specs.List.{find, filter_map, flat_map, list_any}
-use Rattle.std.specs.Option.{option_map, option_map_or, option_and_then, option_to_list}
+use Rattle.std.specs.Option.{option_map, option_map_or, option_and_then}
 use Rattle.gql_value.specs.declared.value.Value.{Value, out-Value}
-use Rattle.gql_value.specs.declared.value.Value.TheOpen.{Value-F}
 use Rattle.schema_model.specs.declared.schema.Schema.{Schema}
 use Rattle.schema_model.specs.declared.schema.SchemaField.{SchemaField}
 use Rattle.schema_model.specs.declared.schema.InputValue.{InputValue}
@@ -18,7 +17,7 @@ use Rattle.cache_model.specs.declared.write.Write.{Write}
 use Rattle.cache_model.specs.declared.write.Write.TheVariants as write
 use Rattle.cache_model.specs.Keys.{keyed_text, root_text}
 use Rattle.entity_keys.specs.Fields.{field_key_text}
-use Rattle.entity_keys.specs.Objects.{id_of, member}
+use Rattle.entity_keys.specs.Objects.{id_of}
 use Rattle.execution_model.specs.Values.{Pairs, depth, null_value, text_value}
 use Rattle.execution_model.specs.declared.given.Given.{Given}
 use Rattle.execution_model.specs.declared.given.Given.TheVariants.{Absent}
@@ -28,7 +27,7 @@ use Rattle.execution_model.specs.Offers.{offered}
 use Rattle.execution_model.specs.Asked.{Execution, Asked, asked_as_sent, root_type, root_sets}
 use Rattle.answer_model.specs.Paths.{members_in}
 use Rattle.answer_model.specs.Types.{ObjectType, type_of_members}
-use Rattle.answer_model.specs.Writing.{Answered, plain_members}
+use Rattle.answer_model.specs.Writing.{plain_members}
 use Rattle.rules_model.specs.declared.term.Term.{Term}
 use Rattle.rules_model.specs.declared.term.Term.TheVariants.{Argument, Member, Literal}
 use Rattle.rules_model.specs.declared.updater.Updater.{Updater}

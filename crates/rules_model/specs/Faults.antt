@@ -1,12 +1,11 @@
 -- When a rule that has its form breaks a code, one definition for each of U3 to U8. Each may assume that the codes before it aren't broken.
-use Rattle.std.specs.Prelude.{ℕ, Bool, true, false, ◌&&◌, not, List, [], Option, Some, None, is_some, is_none, cond, bytes_eq}
-use Rattle.std.specs.List.{list_all, list_any}
-use Rattle.std.specs.Option.{option_map_or, option_and_then}
+use Rattle.std.specs.Prelude.{ℕ, Bool, true, false, ◌&&◌, not, List, Option, Some, None, is_some, cond, bytes_eq}
+use Rattle.std.specs.List.{list_all}
+use Rattle.std.specs.Option.{option_map_or}
 use Rattle.gql_model.specs.declared.executable.OperationKind.TheVariants as kind
 use Rattle.schema_model.specs.declared.schema.Schema.{Schema}
 use Rattle.schema_model.specs.declared.schema.SchemaField.{SchemaField}
 use Rattle.schema_model.specs.declared.schema.InputValue.{InputValue}
-use Rattle.schema_model.specs.declared.schema.TypeId.{TypeId}
 use Rattle.schema_model.specs.Schemas.{id_named}
 use Rattle.schema_model.specs.Possible.{is_object, is_possible_of}
 use Rattle.schema_model.specs.Tables.{entry}

@@ -1,6 +1,6 @@
 -- What a rules file comes to: its rules, or the first table that is refused, with the least code that it breaks. `keys` comes first, by name, then the updaters and then the optimistic rules, in the order of the file.
 use Rattle.std.specs.Prelude.{ℕ, ◌+◌, Bool, true, ◌&&◌, ◌||◌, not, List, [], ◌∷◌, ◌++◌, length, Option, Some, None, Result, Ok, Err, is_some, cond, codes, bytes_eq, decimal}
-use Rattle.std.specs.Option.{option_map, option_map_or, option_and_then}
+use Rattle.std.specs.Option.{option_map_or}
 use Rattle.std.specs.Str.{is_utf8}
 use Rattle.toml.specs.Data.{Data, Members, get_member, as_str, as_table, as_array}
 use Rattle.toml.specs.Parse.{parse_document}

@@ -1,5 +1,5 @@
 -- The key field of a type, as rules set it and use it (after the option `keys` of urql's Graphcache).
-use Rattle.std.specs.Prelude.{ℕ, ◌==◌, Bool, false, not, List, length, Option, Some, None, is_some, unwrap_or, cond, codes}
+use Rattle.std.specs.Prelude.{ℕ, ◌==◌, Bool, false, not, List, length, Option, Some, is_some, unwrap_or, cond, codes}
 use Rattle.std.specs.Option.{option_map_or}
 use Rattle.schema_model.specs.declared.schema.Schema.{Schema}
 use Rattle.entity_keys.specs.Objects.{member}

@@ -1,5 +1,5 @@
 -- Which root field a rule is on: `on` has the name of the root type, a dot and the name of the field, as a schema coordinate has them (GraphQL RFC on schema coordinates).
-use Rattle.std.specs.Prelude.{ℕ, ◌==◌, List, [], ◌∷◌, ◌++◌, Option, Some, None, cond, codes}
+use Rattle.std.specs.Prelude.{ℕ, ◌==◌, List, [], ◌∷◌, Option, Some, None, cond}
 use Rattle.std.specs.Option.{option_and_then, option_or}
 use Rattle.gql_model.specs.declared.executable.OperationKind.{OperationKind}
 use Rattle.gql_model.specs.declared.executable.OperationKind.TheVariants as kind

@@ -1,5 +1,5 @@
 -- The terms of rules: TOML whole numbers, truth values and texts (TOML 1.1). No other source: terms are this project's own.
-use Rattle.std.specs.Prelude.{ℕ, ◌==◌, Bool, true, ◌&&◌, List, [], ◌∷◌, ◌++◌, Option, Some, None, cond}
+use Rattle.std.specs.Prelude.{ℕ, ◌==◌, Bool, List, [], ◌∷◌, ◌++◌, Option, Some, None, cond}
 use Rattle.std.specs.List.{list_all}
 use Rattle.std.specs.Option.{option_map, option_map_or, option_and_then}
 use Rattle.toml.specs.Data.{Data, Members, as_str, as_integer, as_bool, as_table, get_member}
