@@ -80,6 +80,7 @@ impl<D: Disk> Journal<D> {
     pub fn reset(&mut self) -> Result<(), Failed>
         requires intact { IsSettled D.reads D.kept D.may_leave self.old }
         requires empty { self.old.queue.rows ≡ [] }
+        ensures cut { OnOk result (D.reads self.new.disk ≡ option_map (take 9) (D.reads self.old.disk)) }
         ensures queue { self.new.queue ≡ self.old.queue }
         ensures intact { OnOk result (IsSettled D.reads D.kept D.may_leave self.new) }
         ensures crash { (file : List ℕ) → D.reads self.old.disk ≡ Some file
