@@ -1,6 +1,6 @@
-ghost use Rattle.std.specs.Prelude.{◌≡◌, IfOk};
+ghost use Rattle.std.specs.Prelude.{◌≡◌, ◌++◌, IfOk};
 ghost use Rattle.std.specs.Option.{option_copied};
-ghost use Rattle.check_model.specs.Judgement.{first_ground, merge_grounds, late_grounds, refusal_of};
+ghost use Rattle.check_model.specs.Judgement.{first_ground, merge_grounds, place_grounds, late_grounds, refusal_of};
 
 use crate::early::early_refusal;
 use crate::late::value_refusal;
@@ -22,14 +22,32 @@ pub fn first_refusal(
 ) -> Result<Option<Refusal>, Memory>
     ensures { IfOk result (λ r. r ≡ refusal_of schema.now document.now (option_copied name.entry)) }
 {
-    if let Some(refusal) = early_refusal(alloc, document, name)? {
-        return Ok(Some(refusal));
+    match early_refusal(alloc, document, name)? {
+        Some(refusal) => Ok(Some(refusal)),
+        None => Ok(schema_refusal(alloc, schema, document)?),
     }
+}
+
+/// Why a document is refused under a schema, where nothing refuses it by itself.
+fn schema_refusal(
+    alloc: Global,
+    schema: &Schema,
+    document: &Document,
+) -> Result<Option<Refusal>, Memory>
+    ensures { IfOk result (λ r. r ≡ first_ground (place_grounds schema.now document.now ++ late_grounds schema.now document.now)) }
+{
     let scope = Scope::new(alloc, schema, document)?;
-    if let Some(refusal) = place_refusal(alloc, &scope)? {
-        return Ok(Some(refusal));
+    let refusal = scope_refusal(alloc, &scope)?;
+    Ok(refusal)
+}
+
+fn scope_refusal(alloc: Global, scope: &Scope<'_>) -> Result<Option<Refusal>, Memory>
+    ensures { IfOk result (λ r. r ≡ first_ground (place_grounds scope.now.schema.now scope.now.document.now ++ late_grounds scope.now.schema.now scope.now.document.now)) }
+{
+    match place_refusal(alloc, scope)? {
+        Some(refusal) => Ok(Some(refusal)),
+        None => Ok(late_refusal(alloc, scope)?),
     }
-    late_refusal(alloc, &scope)
 }
 
 fn late_refusal(alloc: Global, scope: &Scope<'_>) -> Result<Option<Refusal>, Memory>
