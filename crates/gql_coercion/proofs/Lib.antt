@@ -1,0 +1,5 @@
+mod CoercedLaws
+mod DepthLaws
+mod IntoLaws
+mod NameLaws
+mod PutLaws
