@@ -1,5 +1,5 @@
 -- The canonical text of a document derives it again, places aside.
-use Rattle.std.proofs.Common.{◌≡◌, ◌≢◌, ℕ, Bool, true, false, List, [], ◌∷◌, ◌++◌, map, Option, Some, None, append-nil, refl, sym, ap, ap₂, subst, ◌∙◌}
+use Rattle.std.proofs.Common.{◌≡◌, ℕ, Bool, true, false, List, [], ◌∷◌, ◌++◌, map, Option, Some, None, append-nil, refl, sym, ap, ap₂, subst, ◌∙◌}
 use Rattle.std.proofs.lemmas.List.{map-append}
 use Rattle.gql_tokens.specs.Tokens.{Token, tokens_of, end_at}
 use Rattle.gql_tokens.specs.Places.{first_place}
@@ -9,17 +9,16 @@ use Rattle.gql_tokens.proofs.Choices.{choice}
 use Rattle.gql_spelling.specs.Spelling.{bare, StandApart, ArePrintable, spaced}
 use Rattle.gql_spelling.proofs.Lexing.{lexes_again}
 use Rattle.gql_spelling.proofs.Printable.{tokens_print}
-use Rattle.gql_model.specs.declared.document.Document.{Document}
 use Rattle.gql_model.specs.declared.document.Definition.{Definition}
 use Rattle.gql_model.specs.declared.document.Definition.TheVariants as definition
 use Rattle.gql_model.specs.declared.type_system.TypeSystemForm.{TypeSystemForm}
 use Rattle.gql_model.specs.declared.type_system.TypeSystemForm.TheVariants as form
 use Rattle.gql_model.specs.Sorts.{Sort, starts, mark}
-use Rattle.gql_model.specs.Documents.{of_operation, of_fragment, of_type_system, DefinitionRule, is_none_of, leaves_out_braces, takes_brace, goes_on_with, DefinitionsRule, IsDocument}
+use Rattle.gql_model.specs.Documents.{of_operation, of_fragment, of_type_system, DefinitionRule, is_none_of, leaves_out_braces, takes_brace, goes_on_with, DefinitionsRule}
 use Rattle.gql_printing.specs.Tokens.{Toks, optional}
 use Rattle.gql_printing.specs.TypeSystems.{description_tokens, form_tokens}
-use Rattle.gql_printing.specs.Documents.{definition_tokens, lets_short_form_follow, definitions_tokens, document_tokens, canonical_text}
-use Rattle.gql_printing.specs.Places.{bare_form, bare_definition, without_places}
+use Rattle.gql_printing.specs.Documents.{definition_tokens, lets_short_form_follow, definitions_tokens, document_tokens}
+use Rattle.gql_printing.specs.Places.{bare_form, bare_definition}
 use Rattle.gql_printing.specs.Laws.{CanonicalTextIsItsDocument}
 use Rattle.gql_printing.proofs.Joining.{joins_nil, joins_append}
 use Rattle.gql_printing.proofs.Again.{Again, Spells, bares, empty, single, cut, spelled_append, printable_left, printable_right, spells_as, spells_either}
@@ -29,7 +28,7 @@ use Rattle.gql_printing.proofs.TypeSystemLaws.{spells_type_system}
 
 -- ---- one definition
 
-pub spells_definition : (short : Bool) → Spells true DefinitionRule DefinitionRule bare_definition (definition_tokens short)
+spells_definition : (short : Bool) → Spells true DefinitionRule DefinitionRule bare_definition (definition_tokens short)
 spells_definition short =
     spells_either (spells_as of_fragment bare_definition (definition_tokens short) of_fragment (λ d. refl) (λ d. refl) spells_fragment)
     (spells_either (spells_as of_operation bare_definition (definition_tokens short) of_operation (λ d. refl) (λ d. refl) (spells_operation short))
@@ -108,15 +107,12 @@ stops d again all ts same e =
 
 -- ---- all definitions
 
--- nothing can be read again
-pub again_nothing : Again true DefinitionsRule (map bare_definition) [] []
-again_nothing = record { again = λ ts e. ([], empty ts e, refl); spelled = tt; joins = joins_nil true }
-
--- one definition more, before others
-pub again_more : (short : Bool) (d : Definition) (all : List Definition) → Again true DefinitionRule bare_definition (bare_definition d) (definition_tokens short d)
-    → Again true DefinitionsRule (map bare_definition) (map bare_definition all) (definitions_tokens (lets_short_form_follow d) all)
-    → Again true DefinitionsRule (map bare_definition) (map bare_definition (d ∷ all)) (definitions_tokens short (d ∷ all))
-again_more short d all one others =
+spells_definitions : (short : Bool) (front : Toks) (all : List Definition) → DefinitionsRule front all → ArePrintable front → Again true DefinitionsRule (map bare_definition) (map bare_definition all) (definitions_tokens short all)
+spells_definitions short front [] r h = record { again = λ ts e. ([], empty ts e, refl); spelled = tt; joins = joins_nil true }
+spells_definitions short front (d ∷ all) r h =
+    let parts = subst ArePrintable r.2 h in
+    let one = (spells_definition short).law r.0 d r.3 (printable_left r.0 r.1 parts) in
+    let others = spells_definitions (lets_short_form_follow d) r.1 all r.5 (printable_right r.0 r.1 parts) in
     let p = definition_tokens short d in
     let q = definitions_tokens (lets_short_form_follow d) all in
     record {
@@ -129,13 +125,6 @@ again_more short d all one others =
       joins = joins_append true p q one.joins others.joins;
     }
 
-spells_definitions : (short : Bool) (front : Toks) (all : List Definition) → DefinitionsRule front all → ArePrintable front → Again true DefinitionsRule (map bare_definition) (map bare_definition all) (definitions_tokens short all)
-spells_definitions short front [] r h = again_nothing
-spells_definitions short front (d ∷ all) r h =
-    let parts = subst ArePrintable r.2 h in
-    again_more short d all ((spells_definition short).law r.0 d r.3 (printable_left r.0 r.1 parts))
-    (spells_definitions (lets_short_form_follow d) r.1 all r.5 (printable_right r.0 r.1 parts))
-
 -- ---- the canonical text
 
 none_left : (all : List Definition) → map bare_definition all ≡ [] → all ≡ []
@@ -145,26 +134,18 @@ none_left (d ∷ all) e = absurd cc
 end_token : Token
 end_token = end_at first_place
 
--- a document whose definitions can be read again is what its canonical text is, places aside
-pub again_document : (document : Document) → (document.definitions ≢ []) → Again true DefinitionsRule (map bare_definition) (map bare_definition document.definitions) (document_tokens document)
-    → (again : Document) × IsDocument (canonical_text document) again × (without_places again ≡ without_places document)
+pub canonical_again : CanonicalTextIsItsDocument
 unfolding end_token
-again_document document some h =
+canonical_again text document d =
+    let all = document.definitions in
     let written = document_tokens document in
+    let h = spells_definitions true d.0 all d.4.1 (printable_left d.0 (d.1 ∷ []) (subst ArePrintable d.2 (tokens_print text))) in
     let apart : StandApart written = subst StandApart (append-nil written) (h.joins [] tt tt).0 in
     let lexed = lexes_again written h.spelled apart ∙ sym (map-append bare written (end_token ∷ [])) in
     let m = cut written (end_token ∷ []) (tokens_of (spaced written)) lexed in
     let one = single (kind.End, []) m.right m.second in
     let x = h.again m.left m.first in (
       record { definitions = x.0 },
-      (m.left, one.0, m.whole ∙ ap (λ (r : Toks). m.left ++ r) one.1, ap (λ (k : Kind × List ℕ). k.0) one.2, (λ e. some (none_left document.definitions (sym x.2 ∙ ap (map bare_definition) e)), x.1)),
+      (m.left, one.0, m.whole ∙ ap (λ (r : Toks). m.left ++ r) one.1, ap (λ (k : Kind × List ℕ). k.0) one.2, (λ e. d.4.0 (none_left all (sym x.2 ∙ ap (map bare_definition) e)), x.1)),
       ap (λ (definitions : List Definition). record { definitions = definitions }) x.2,
     )
-
--- the tokens of a text before its end can be printed
-pub printable_before : (text : List ℕ) (front : Toks) (end : Token) → tokens_of text ≡ front ++ end ∷ [] → ArePrintable front
-printable_before text front end e = printable_left front (end ∷ []) (subst ArePrintable e (tokens_print text))
-
-pub canonical_again : CanonicalTextIsItsDocument
-canonical_again text document d =
-    again_document document d.4.0 (spells_definitions true d.0 document.definitions d.4.1 (printable_before text d.0 d.1 d.2))

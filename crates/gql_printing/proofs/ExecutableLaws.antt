@@ -79,11 +79,11 @@ again_no_variables = record { again = λ ts e. ([], record { of = None; is = ref
 -- ---- operations
 
 -- each part of an operation can be read again
-pub record Parts (o : Operation) : Type 0 where
-  pub name : Again true (Opt NameRule) (option_map bare_name) (option_map bare_name o.name) (optional name_tokens o.name)
-  pub variables : Again true (Perhaps VariablesRule) (map bare_variable_definition) (map bare_variable_definition o.variables) (variables_tokens o.variables)
-  pub directives : Again true (DirectivesRule false) bare_directives (bare_directives o.directives) (directives_tokens o.directives)
-  pub set : Again true SetRule bare_set (bare_set o.selection_set) (set_tokens o.selection_set)
+record Parts (o : Operation) : Type 0 where
+  name : Again true (Opt NameRule) (option_map bare_name) (option_map bare_name o.name) (optional name_tokens o.name)
+  variables : Again true (Perhaps VariablesRule) (map bare_variable_definition) (map bare_variable_definition o.variables) (variables_tokens o.variables)
+  directives : Again true (DirectivesRule false) bare_directives (bare_directives o.directives) (directives_tokens o.directives)
+  set : Again true SetRule bare_set (bare_set o.selection_set) (set_tokens o.selection_set)
 
 short_parts : (place : Place) (front : Toks) (set : SelectionSet) → SetRule front set → ArePrintable front → Parts (short_of place set)
 short_parts place front set r h = record { name = again_none; variables = again_no_variables; directives = again_nil; set = spells_set.law front set r h }
@@ -115,7 +115,7 @@ long_parts place front p r h =
         let parts = subst ArePrintable e h in
         (printable_left before after parts, printable_right before after parts)
 
-pub parts_of : (front : Toks) (o : Operation) → OperationRule front o → ArePrintable front → Parts o
+parts_of : (front : Toks) (o : Operation) → OperationRule front o → ArePrintable front → Parts o
 parts_of front o (inl r) h = subst Parts r.is (short_parts (place_of front) front r.of r.rule h)
 parts_of front o (inr r) h = subst Parts r.is (long_parts (place_of front) front r.of r.rule h)
 
@@ -149,13 +149,13 @@ both_true : (a b : Bool) → (a && b) ≡ true → b ≡ true
 both_true true b e = e
 both_true false b e = absurd cc
 
-pub again_operation : (short : Bool) (o : Operation) → Parts o → Again true OperationRule bare_operation (bare_operation o) (operation_tokens short o)
-again_operation short o p =
-    choice (Again true OperationRule bare_operation (bare_operation o)) (short && has_short_form o) (set_tokens o.selection_set) (long_form_tokens o)
-    (λ e. again_short o (both_true short (has_short_form o) e) p) (λ e. again_long o p)
-
 pub spells_operation : (short : Bool) → Spells true OperationRule OperationRule bare_operation (operation_tokens short)
-spells_operation short = record { law = λ front o r h. again_operation short o (parts_of front o r h) }
+spells_operation short = record {
+  law = λ front o r h.
+      let p = parts_of front o r h in
+      choice (Again true OperationRule bare_operation (bare_operation o)) (short && has_short_form o) (set_tokens o.selection_set) (long_form_tokens o)
+      (λ e. again_short o (both_true short (has_short_form o) e) p) (λ e. again_long o p);
+}
 
 -- ---- fragments
 

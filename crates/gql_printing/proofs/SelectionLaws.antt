@@ -36,7 +36,7 @@ spells_argument constant =
     spells_as argument_of bare_argument argument_tokens argument_of (λ p. refl) (λ p. refl)
     (spells_seq spells_name (spells_behind (colon false) (spells_value constant)))
 
-pub spells_arguments : (constant c : Bool) → Spells c (Perhaps (ArgumentsRule constant)) (Perhaps (ArgumentsRule constant)) (map bare_argument) arguments_tokens
+spells_arguments : (constant c : Bool) → Spells c (Perhaps (ArgumentsRule constant)) (Perhaps (ArgumentsRule constant)) (map bare_argument) arguments_tokens
 spells_arguments constant c = spells_grouped kind.ParenOpen kind.ParenClose paren_open paren_close (spells_argument constant) c
 
 spells_directive : {c : Bool} (constant : Bool) → Spells c (DirectiveRule constant) (DirectiveRule constant) bare_directive directive_tokens
@@ -50,10 +50,10 @@ spells_directives constant = spells_many (spells_directive constant)
 
 -- ---- one level of a selection
 
-pub selection_roll : (s : Selection-F Selection Field InlineFragment SelectionSet) → selection_tokens (roll-Selection s) ≡ tokens.selection_step (map-Selection Selection Field InlineFragment SelectionSet Toks Toks Toks Toks selection_tokens field_tokens inline_tokens set_tokens s)
+selection_roll : (s : Selection-F Selection Field InlineFragment SelectionSet) → selection_tokens (roll-Selection s) ≡ tokens.selection_step (map-Selection Selection Field InlineFragment SelectionSet Toks Toks Toks Toks selection_tokens field_tokens inline_tokens set_tokens s)
 selection_roll s = fold-roll-Selection Toks Toks Toks Toks tokens.selection_step tokens.field_step tokens.inline_step tokens.set_step s
 
-pub selection_bare : (s : Selection-F Selection Field InlineFragment SelectionSet) → bare_selection (roll-Selection s) ≡ places.selection_step (map-Selection Selection Field InlineFragment SelectionSet Selection Field InlineFragment SelectionSet bare_selection bare_field bare_inline bare_set s)
+selection_bare : (s : Selection-F Selection Field InlineFragment SelectionSet) → bare_selection (roll-Selection s) ≡ places.selection_step (map-Selection Selection Field InlineFragment SelectionSet Selection Field InlineFragment SelectionSet bare_selection bare_field bare_inline bare_set s)
 selection_bare s = fold-roll-Selection Selection Field InlineFragment SelectionSet places.selection_step places.field_step places.inline_step places.set_step s
 
 inline_roll : (f : InlineFragment-F Selection Field InlineFragment SelectionSet) → inline_tokens (roll-InlineFragment f) ≡ punctuator kind.Spread ∷ (optional condition_tokens f.type_condition ++ (directives_tokens f.directives ++ set_tokens f.selection_set))
@@ -62,24 +62,24 @@ inline_roll f = fold-roll-InlineFragment Toks Toks Toks Toks tokens.selection_st
 inline_bare : (f : InlineFragment-F Selection Field InlineFragment SelectionSet) → bare_inline (roll-InlineFragment f) ≡ roll-InlineFragment (record { place = first_place; type_condition = option_map bare_name f.type_condition; directives = bare_directives f.directives; selection_set = bare_set f.selection_set })
 inline_bare f = fold-roll-InlineFragment Selection Field InlineFragment SelectionSet places.selection_step places.field_step places.inline_step places.set_step f
 
-pub set_roll : (s : SelectionSet-F Selection Field InlineFragment SelectionSet) → set_tokens (roll-SelectionSet s) ≡ punctuator kind.BraceOpen ∷ (joined (map selection_tokens s.selections) ++ punctuator kind.BraceClose ∷ [])
+set_roll : (s : SelectionSet-F Selection Field InlineFragment SelectionSet) → set_tokens (roll-SelectionSet s) ≡ punctuator kind.BraceOpen ∷ (joined (map selection_tokens s.selections) ++ punctuator kind.BraceClose ∷ [])
 set_roll s = fold-roll-SelectionSet Toks Toks Toks Toks tokens.selection_step tokens.field_step tokens.inline_step tokens.set_step s
 
-pub set_bare : (s : SelectionSet-F Selection Field InlineFragment SelectionSet) → bare_set (roll-SelectionSet s) ≡ roll-SelectionSet (record { place = first_place; selections = map bare_selection s.selections })
+set_bare : (s : SelectionSet-F Selection Field InlineFragment SelectionSet) → bare_set (roll-SelectionSet s) ≡ roll-SelectionSet (record { place = first_place; selections = map bare_selection s.selections })
 set_bare s = fold-roll-SelectionSet Selection Field InlineFragment SelectionSet places.selection_step places.field_step places.inline_step places.set_step s
 
 -- ---- fields
 
-abbrev pub FieldParts : Type 0
+abbrev FieldParts : Type 0
 FieldParts = Name × (Option Name × (List Argument × (List Directive × Option SelectionSet)))
 
 abbrev renamed_tokens : Name → Toks
 renamed_tokens name = punctuator kind.Colon ∷ name_tokens name
 
-abbrev pub parts_tokens : FieldParts → Toks
+abbrev parts_tokens : FieldParts → Toks
 parts_tokens = both_tokens name_tokens (both_tokens (optional renamed_tokens) (both_tokens arguments_tokens (both_tokens directives_tokens (optional set_tokens))))
 
-abbrev pub bare_parts : FieldParts → FieldParts
+abbrev bare_parts : FieldParts → FieldParts
 bare_parts = both bare_name (both (option_map bare_name) (both (map bare_argument) (both bare_directives (option_map bare_set))))
 
 field_roll : (alias : Option Name) (name : Name) (arguments : List Argument) (directives : List Directive) (set : Option SelectionSet)
@@ -92,7 +92,7 @@ or_optional : (set : Option SelectionSet) → or_nothing (option_map set_tokens 
 or_optional None = refl
 or_optional (Some set) = refl
 
-pub field_of_tokens : (p : FieldParts) → field_tokens (field_of p) ≡ parts_tokens p
+field_of_tokens : (p : FieldParts) → field_tokens (field_of p) ≡ parts_tokens p
 field_of_tokens (name, (None, (arguments, (directives, set)))) =
     field_roll None name arguments directives set
     ∙ ap (λ (t : Toks). word name.text ∷ (arguments_tokens arguments ++ (directives_tokens directives ++ t))) (or_optional set)
@@ -103,7 +103,7 @@ field_of_tokens (name, (Some renamed, (arguments, (directives, set)))) =
 field_bare : (f : Field-F Selection Field InlineFragment SelectionSet) → bare_field (roll-Field f) ≡ places.field_step (map-Field Selection Field InlineFragment SelectionSet Selection Field InlineFragment SelectionSet bare_selection bare_field bare_inline bare_set f)
 field_bare f = fold-roll-Field Selection Field InlineFragment SelectionSet places.selection_step places.field_step places.inline_step places.set_step f
 
-pub bare_field_of : (p : FieldParts) → bare_field (field_of p) ≡ field_of (bare_parts p)
+bare_field_of : (p : FieldParts) → bare_field (field_of p) ≡ field_of (bare_parts p)
 bare_field_of (name, (None, (arguments, (directives, None)))) = field_bare (record { alias = None; name = name; arguments = arguments; directives = directives; selection_set = None })
 bare_field_of (name, (None, (arguments, (directives, Some set)))) = field_bare (record { alias = None; name = name; arguments = arguments; directives = directives; selection_set = Some set })
 bare_field_of (name, (Some renamed, (arguments, (directives, None)))) = field_bare (record { alias = Some name; name = renamed; arguments = arguments; directives = directives; selection_set = None })
@@ -127,18 +127,18 @@ behind_dots s = behind_first (selection_tokens s)
 spread_of_tokens : (place : Place) (p : Name × List Directive) → selection_tokens (spread_of place p) ≡ punctuator kind.Spread ∷ both_tokens name_tokens directives_tokens p
 spread_of_tokens place p = selection_roll (Selection-F.Spread (record { place = place; name = p.0; directives = p.1 }))
 
-abbrev pub InlineParts : Type 0
+abbrev InlineParts : Type 0
 InlineParts = Option Name × (List Directive × SelectionSet)
 
-abbrev pub inline_parts : InlineParts → Toks
+abbrev inline_parts : InlineParts → Toks
 inline_parts = both_tokens (optional condition_tokens) (both_tokens directives_tokens set_tokens)
 
-pub inline_of_tokens : (place : Place) (p : InlineParts) → selection_tokens (inline_of place p) ≡ punctuator kind.Spread ∷ inline_parts p
+inline_of_tokens : (place : Place) (p : InlineParts) → selection_tokens (inline_of place p) ≡ punctuator kind.Spread ∷ inline_parts p
 inline_of_tokens place p =
     let f : InlineFragment-F Selection Field InlineFragment SelectionSet = record { place = place; type_condition = p.0; directives = p.1.0; selection_set = p.1.1 } in
     selection_roll (Selection-F.Inline (roll-InlineFragment f)) ∙ inline_roll f
 
-pub bare_inline_of : (place : Place) (p : InlineParts) → bare_selection (inline_of place p) ≡ inline_of first_place (both (option_map bare_name) (both bare_directives bare_set) p)
+bare_inline_of : (place : Place) (p : InlineParts) → bare_selection (inline_of place p) ≡ inline_of first_place (both (option_map bare_name) (both bare_directives bare_set) p)
 bare_inline_of place p =
     let f : InlineFragment-F Selection Field InlineFragment SelectionSet = record { place = place; type_condition = p.0; directives = p.1.0; selection_set = p.1.1 } in
     selection_bare (Selection-F.Inline (roll-InlineFragment f)) ∙ ap (λ (i : InlineFragment). roll-Selection (Selection-F.Inline i)) (inline_bare f)
@@ -181,7 +181,7 @@ spells_spreading {R} l =
 
 -- ---- selection sets
 
-pub spells_selection : {R R' : Rule SelectionSet} → Spells true R R' bare_set set_tokens → Spells true (SelectionRule R) (SelectionRule R') bare_selection selection_tokens
+spells_selection : {R R' : Rule SelectionSet} → Spells true R R' bare_set set_tokens → Spells true (SelectionRule R) (SelectionRule R') bare_selection selection_tokens
 spells_selection l =
     spells_either (spells_spreading l)
     (spells_as field_selection bare_selection selection_tokens field_selection (λ f. selection_bare (Selection-F.Field f)) (λ f. selection_roll (Selection-F.Field f)) (spells_field l))

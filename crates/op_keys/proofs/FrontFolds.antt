@@ -1,5 +1,8 @@
 -- One level of the sets that get `__typename` at their front.
-use Rattle.std.proofs.Common.{◌≡◌, Bool, ◌||◌, List, [], ◌∷◌, map, Option, Some, None, refl, ap, ap₂, ◌∙◌}
+use Rattle.std.proofs.Common.{◌≡◌, Bool, ◌||◌, List, [], ◌∷◌, ◌++◌, map, Option, Some, None, refl, sym, ap, ap₂, ◌∙◌, append_assoc}
+use Rattle.std.specs.Prelude.{OnOk}
+use Rattle.std.specs.declared.result.Result.{Result}
+use Rattle.std.specs.declared.result.Result.TheVariants.{Ok, Err}
 use Rattle.std.specs.Option.{option_map}
 use Rattle.std.specs.List.{flat_map, list_any}
 use Rattle.gql_model.specs.declared.name.Name.{Name}
@@ -92,3 +95,8 @@ fronts_in_set_out schema subscribes owner parent set =
     ap (λ (f : FrontsIn). f owner parent)
     (fold_out-SelectionSet Fronting Fronting FrontsIn FrontsIn selection_fronts (field_fronts schema) (inline_fronts schema) (set_fronts schema subscribes) set)
     ∙ ap (λ (selects : Bool). is_fronted schema subscribes owner parent selects ∷ fronts_inside schema subscribes parent all) (plain_selections schema subscribes all)
+
+-- one more is told, and then those inside
+pub told_first : {T E : Type 0} (r : Result T E) (old begun new inside whole : Fronts) (b : Bool) → begun ≡ old ++ b ∷ [] → whole ≡ b ∷ inside → OnOk r (new ≡ begun ++ inside) → OnOk r (new ≡ old ++ whole)
+told_first (Ok x) old begun new inside whole b m w h = h ∙ ap (λ (l : Fronts). l ++ inside) m ∙ append_assoc old (b ∷ []) inside ∙ ap (λ (l : Fronts). old ++ l) (sym w)
+told_first (Err e) old begun new inside whole b m w h = tt

@@ -1,13 +1,18 @@
 -- Numbers of identities: they are places, they stay, and equal ones are those of equal identities.
-use Rattle.std.proofs.Common.{◌≡◌, ◌<◌, ◌≤◌, ◌+◌, ◌↔◌, ℕ, Bool, true, false, not, cond, ◌||◌, ◌&&◌, List, [], ◌∷◌, ◌++◌, map, length, Option, Some, None, refl, sym, ap, ap₂, subst, ◌∙◌, arith, bytes_eq, if◌then◌else◌, ltb}
-use Rattle.std.specs.Prelude.{fold}
+use Rattle.std.proofs.Common.{◌≡◌, ◌<◌, ◌≤◌, ◌+◌, ◌↔◌, ℕ, suc, Bool, true, false, not, cond, ◌||◌, ◌&&◌, List, [], ◌∷◌, ◌++◌, map, length, Option, Some, None, refl, sym, ap, ap₂, subst, ◌∙◌, arith, bytes_eq, if◌then◌else◌, ltb}
+use Rattle.std.specs.Prelude.{fold, OnErr, OnOk}
+use Rattle.std.specs.declared.result.Result.{Result}
+use Rattle.std.specs.declared.result.Result.TheVariants.{Ok, Err}
 use Rattle.std.specs.Bool.{Decides}
-use Rattle.std.specs.List.{list_any, position_from, position_or_len, prefix_len}
+use Rattle.std.specs.List.{list_any, position_from, position, position_or_len}
 use Rattle.std.proofs.lemmas.Iterator.Adapters.{position_from-zero}
+use Rattle.std.proofs.lemmas.Bool.{cond_below}
 use Rattle.std.proofs.lemmas.List.{map-append}
 use Rattle.std.proofs.lemmas.Slice.Eq.{bytes_eq-Decides}
 use Rattle.gql_tokens.proofs.Choices.{choice}
 use Rattle.op_keys.specs.declared.identity.Identity.{Identity}
+use Rattle.op_keys.specs.declared.keys.KeysError.{KeysError}
+use Rattle.op_keys.specs.declared.keys.KeysError.TheVariants as error
 use Rattle.op_keys.specs.Identities.{Identities, is_same, holds, number_of, interned}
 use Rattle.op_keys.specs.Laws.{EqualNumbersForEqualIdentities}
 
@@ -48,8 +53,18 @@ unfolding put
 put_stays own k e true ks = refl
 put_stays own k e false ks = first_stays own k e ks
 
-below : (m n : ℕ) → m < n → cond (ltb m n) (Some m) None ≡ Some m
-below m n h = choice (λ (o : Option ℕ). o ≡ Some m) (ltb m n) (Some m) None (λ e. refl) (λ e. absurd (omega (arith, e, h)))
+-- the place of a key that is there is the number of its identity
+pub found_as : {K : Type 0} (f : K → Identity) (k : K) (own : K → Bool) → ((x : K) → is_same (f k) (f x) ≡ own x) → (ks : List K) (n : ℕ)
+    → position own ks ≡ Some n → number_of (map f ks) (f k) ≡ Some n
+found_as f k own same ks n e = position_map f (is_same (f k)) own same 0 ks ∙ sym (position_from-zero own ks) ∙ e
+
+pub fits_after : (b : Bool) (place old new : ℕ) → place < new → new ≡ old + (if b then 1 else 0) → old ≤ 4294967295 → place < 4294967296
+fits_after true place old new h e l = omega (arith, h, e, l)
+fits_after false place old new h e l = omega (arith, h, e, l)
+
+pub map_length : {K : Type 0} (f : K → Identity) (ks : List K) → length (map f ks) ≡ length ks
+map_length f [] = refl
+map_length f (k ∷ ks) = ap suc (map_length f ks)
 
 -- the place of a key is the number of its identity
 pub number_as : {K : Type 0} (f : K → Identity) (k : K) (own : K → Bool) → ((x : K) → is_same (f k) (f x) ≡ own x) → own k ≡ true → (ks : List K)
@@ -62,7 +77,14 @@ number_as f k own same e ks h =
     position_map f (is_same (f k)) own same 0 new
     ∙ sym (position_from-zero own new)
     ∙ ap (λ (n : ℕ). cond (ltb n (length new)) (Some n) None) stays
-    ∙ below (position_or_len own ks) (length new) h
+    ∙ sym (cond_below (position_or_len own ks) (length new) (Some (position_or_len own ks)) None h)
+
+-- the same of the keys that are there then
+pub number_in : {K : Type 0} (f : K → Identity) (k : K) (own : K → Bool) → ((x : K) → is_same (f k) (f x) ≡ own x) → own k ≡ true → (ks : List K) (n : ℕ) (new : List K)
+    → n ≡ position_or_len own ks → new ≡ (if list_any own ks then ks else ks ++ k ∷ []) → n < length new → number_of (map f new) (f k) ≡ Some n
+number_in {K} f k own same e ks n new i is h =
+    let within = subst (λ (all : List K). position_or_len own ks < length all) is (subst (λ (m : ℕ). m < length new) i h) in
+    ap (λ (all : List K). number_of (map f all) (f k)) is ∙ number_as f k own same e ks within ∙ ap Some (sym i)
 
 -- ---- equal identities
 
@@ -74,10 +96,31 @@ same_means a b e = parts a b (bytes_eq a.document b.document) (bytes_eq a.operat
     made document operation variables = record { document = document; operation = operation; variables = variables }
 
     parts : (a b : Identity) (p q r : Bool) → Decides p (a.document ≡ b.document) → Decides q (a.operation ≡ b.operation) → Decides r (a.variables ≡ b.variables) → (p && (q && r)) ≡ true → a ≡ b
-    parts a b true true true h k l e = search (rules)
+    parts a b true true true h k l e =
+        ap (λ (d : List ℕ). made d a.operation a.variables) (h.0 refl)
+        ∙ ap₂ (λ (o v : List ℕ). made b.document o v) (k.0 refl) (l.0 refl)
     parts a b true true false h k l e = absurd cc
     parts a b true false r h k l e = absurd cc
     parts a b false q r h k l e = absurd cc
+
+pub same_self : (a : Identity) → is_same a a ≡ true
+same_self a =
+    let d = (bytes_eq-Decides a.document a.document).1 refl in
+    let o = (bytes_eq-Decides a.operation a.operation).1 refl in
+    let v = (bytes_eq-Decides a.variables a.variables).1 refl in
+    ap (λ (p : Bool). p && (bytes_eq a.operation a.operation && bytes_eq a.variables a.variables)) d
+    ∙ ap₂ (λ (q r : Bool). true && (q && r)) o v
+
+-- ---- refusals
+
+pub told : (P : Type 0) (r : Result ℕ KeysError) → OnErr r P → r ≡ Err error.Numbers → P
+told P (Ok x) h e = absurd cc
+told P (Err y) h e = h
+
+pub refused : (held : Bool) (r : Result ℕ KeysError) → OnOk r (held ≡ true) → (r ≡ Err error.Memory → ⊥) → held ≡ false → r ≡ Err error.Numbers
+refused held (Ok x) h m e = absurd cc
+refused held (Err error.Numbers) h m e = refl
+refused held (Err error.Memory) h m e = absurd (m refl)
 
 -- ---- numbers stay
 

@@ -149,6 +149,6 @@ sent_set_roll schema subscribes owner parent place all =
     ∙ ap (λ (selects : Bool). roll-SelectionSet (record { place = place; selections = with_front (is_fronted schema subscribes owner parent selects) place (sent_in schema subscribes parent all) }))
     (plain_selections schema subscribes all)
 
-pub front_first : (fronted : Bool) (place : Place) (all : List Selection) → with_front fronted place [] ++ all ≡ with_front fronted place all
-front_first true place all = refl
-front_first false place all = refl
+pub front_more : (fronted : Bool) (place : Place) (all more : List Selection) → with_front fronted place all ++ more ≡ with_front fronted place (all ++ more)
+front_more true place all more = refl
+front_more false place all more = refl

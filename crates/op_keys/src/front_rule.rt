@@ -42,7 +42,7 @@ fn is_plain_typename(field: &Field) -> bool
 }
 
 /// Whether `__typename` is selected, without alias and without directives.
-pub(crate) fn selects_plainly(selections: &[Selection]) -> bool
+fn selects_plainly(selections: &[Selection]) -> bool
     ensures { result ≡ list_any plain.is_plain selections.now }
 {
     selections.iter().any(is_plain)
@@ -57,8 +57,21 @@ fn is_plain(selection: &Selection) -> bool
     }
 }
 
+/// Whether `__typename` is put at the front of a set with these selections, of this owner and type.
+pub(crate) fn is_fronted(
+    schema: &Schema,
+    subscribes: bool,
+    owner: Owner,
+    parent: Option<TypeId>,
+    selections: &[Selection],
+) -> bool
+    ensures { result ≡ spec.is_fronted schema.now subscribes (owner_of owner) parent (list_any plain.is_plain selections.now) }
+{
+    !selects_plainly(selections) && takes_front(schema, subscribes, owner, parent)
+}
+
 /// Whether a set of this owner and type may have one field more.
-pub(crate) fn takes_front(
+fn takes_front(
     schema: &Schema,
     subscribes: bool,
     owner: Owner,

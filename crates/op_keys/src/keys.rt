@@ -1,9 +1,9 @@
 //! The numbers of identities.
 
-ghost use Rattle.std.specs.Prelude.{◌≡◌, [], false, length, Some, IfOk, OnOk, OnErr, IsErrOf, ◌↔◌};
+ghost use Rattle.std.specs.Prelude.{◌≡◌, ◌<◌, [], true, false, length, Some, IfOk, OnOk, OnErr, IsErrOf, ◌↔◌};
 ghost use Rattle.op_keys.specs.Identities as spec;
 ghost use Rattle.op_keys.specs.KeyParts.{of_key};
-ghost use Rattle.op_keys.specs.declared.keys.KeysError.TheVariants.{Numbers};
+ghost use Rattle.op_keys.specs.declared.keys.KeysError.TheVariants.{Numbers, Memory};
 
 use crate::identity::Identity;
 use indexmap::IndexSet;
@@ -19,7 +19,7 @@ pub enum KeysError {
 }
 
 impl From<AllocFailed<Key>> for KeysError {
-    ghost from_gives = { λ refused. Rattle.op_keys.specs.declared.keys.KeysError.TheVariants.Memory };
+    ghost from_gives = { λ _ e. e ≡ Rattle.op_keys.specs.declared.keys.KeysError.TheVariants.Memory };
 
     fn from(_: AllocFailed<Key>) -> KeysError {
         KeysError::Memory
@@ -54,7 +54,8 @@ pub struct Keys {
 }
 
 impl Model for Keys {
-    ghost use Rattle.std.specs.Prelude.{List, map, length, ◌≤◌};
+    ghost use Rattle.std.specs.Prelude.{map, length, ◌≤◌};
+    ghost use Rattle.std.specs.Coded.{codes};
     ghost use Rattle.op_keys.specs.Identities.{Identities, most};
     ghost use Rattle.op_keys.specs.KeyParts.{of_key};
 
@@ -85,10 +86,32 @@ impl Keys {
     {
         let key = key_of(identity);
         if self.keys.len() < MOST {
-            let (place, _) = self.keys.insert_full(key)?;
-            return Ok(place as u32);
+            self.put(key)
+        } else {
+            self.find(&key)
         }
-        match self.keys.get_index_of(&key) {
+    }
+
+    /// The number of a key, which is added where it is new.
+    fn put(&mut self, key: Key) -> Result<u32, KeysError>
+        requires { length self.old < spec.most }
+        ensures number { IfOk result (λ number. spec.number_of self.new (of_key key) ≡ Some number) }
+        ensures ok { OnOk result (self.new ≡ spec.interned self.old (of_key key)) }
+        ensures err { OnErr result (self.new ≡ self.old) }
+        ensures numbers { IsErrOf result Numbers → ⊥ }
+    {
+        let (place, _) = self.keys.insert_full(key)?;
+        Ok(place as u32)
+    }
+
+    /// The number of a key that is there.
+    fn find(&self, key: &Key) -> Result<u32, KeysError>
+        ensures number { IfOk result (λ number. spec.number_of self.now (of_key key.now) ≡ Some number) }
+        ensures ok { OnOk result (spec.holds self.now (of_key key.now) ≡ true) }
+        ensures err { OnErr result (spec.holds self.now (of_key key.now) ≡ false) }
+        ensures memory { IsErrOf result Memory → ⊥ }
+    {
+        match self.keys.get_index_of(key) {
             Some(place) => Ok(place as u32),
             None => Err(KeysError::Numbers),
         }

@@ -7,8 +7,6 @@
 //! text of its document, the name of its operation and the sorted text of its coerced variables. Want of
 //! memory is their one failure. [`Keys::intern`] numbers identities: equal ones have equal numbers,
 //! others have others ([`equal_numbers_for_equal_identities`]), and a refusal changes nothing.
-//!
-//! That the text of what is sent is that of the document that is sent is [`sent_text_is_its_document`].
 #![tactic(auto)]
 
 mod front_rule;
@@ -23,6 +21,6 @@ mod tests;
 
 pub use identity::{Identity, canonical};
 pub use keys::{Keys, KeysError};
-pub use laws::{equal_numbers_for_equal_identities, sent_text_is_its_document};
+pub use laws::equal_numbers_for_equal_identities;
 pub use listing::fronts;
 pub use sending::with_typename;

@@ -9,7 +9,7 @@ ghost use Rattle.execution_model.specs.Fronts.{OfFragment};
 ghost use Rattle.op_keys.specs.FrontFolds as folds;
 ghost use Rattle.op_keys.specs.Owners.{owner_of};
 
-use crate::front_rule::{has_subscription, selects_plainly, takes_front};
+use crate::front_rule::{has_subscription, is_fronted};
 use crate::owner::Owner;
 use gql_model::{Definition, Document, Field, InlineFragment, Selection, SelectionSet};
 use schema_model::{Schema, TypeId};
@@ -74,8 +74,7 @@ impl<'a> Lister<'a> {
         ensures { OnOk result (fronts.new ≡ fronts.old ++ spec.fronts_in_set self.now.schema.now self.now.subscribes set.now (owner_of owner) parent) }
     {
         let selections = set.selections.as_slice();
-        let fronted = !selects_plainly(selections)
-            && takes_front(self.schema, self.subscribes, owner, parent);
+        let fronted = is_fronted(self.schema, self.subscribes, owner, parent, selections);
         fronts.push(fronted)?;
         self.selections(fronts, selections, parent)
     }

@@ -1,12 +1,12 @@
 //! The document that is sent for a client's document: `__typename` is put at the front of selection sets.
 
-ghost use Rattle.std.specs.Prelude.{◌≡◌, ◌++◌, [], IfOk, map};
+ghost use Rattle.std.specs.Prelude.{◌≡◌, [], IfOk, map};
 ghost use Rattle.std.specs.Option.{option_map};
 ghost use Rattle.execution_model.specs.Fronts.{OfField};
 ghost use Rattle.op_keys.specs.Sent as spec;
 ghost use Rattle.op_keys.specs.Owners.{owner_of};
 
-use crate::front_rule::{has_subscription, selects_plainly, takes_front};
+use crate::front_rule::{has_subscription, is_fronted};
 use crate::owner::Owner;
 use gql_copying::CopyIn;
 use gql_model::{
@@ -101,7 +101,7 @@ impl<'a> Sender<'a> {
     }
 
     #[cycle(send)]
-    #[tactic(auto, using(crate::proofs::SentFolds::sent_set_out, crate::proofs::SentFolds::front_first))]
+    #[tactic(auto, using(crate::proofs::SentFolds::sent_set_out))]
     fn set(
         &self,
         alloc: Global,
@@ -112,27 +112,27 @@ impl<'a> Sender<'a> {
         ensures { IfOk result (λ sent. sent ≡ spec.sent_set self.now.schema.now self.now.subscribes set.now (owner_of owner) parent) }
     {
         let selections = set.selections.as_slice();
-        let fronted = !selects_plainly(selections)
-            && takes_front(self.schema, self.subscribes, owner, parent);
-        let front = front(alloc, fronted, set.place)?;
+        let fronted = is_fronted(self.schema, self.subscribes, owner, parent, selections);
         Ok(SelectionSet {
             place: set.place,
-            selections: self.selections(alloc, front, selections, parent)?,
+            selections: self.selections(alloc, fronted, set.place, selections, parent)?,
         })
     }
 
-    /// Selections behind what is put at their front.
+    /// The selections of a set that stands at a place, behind what is put at their front.
     #[cycle(send)]
+    #[tactic(auto, using(crate::proofs::SentFolds::front_more))]
     fn selections(
         &self,
         alloc: Global,
-        front: Items<Selection>,
+        fronted: bool,
+        place: Place,
         selections: &[Selection],
         parent: Option<TypeId>,
     ) -> Result<Items<Selection>, Memory>
-        ensures { IfOk result (λ sent. sent ≡ front ++ map (λ s. s.sent parent) (map (spec.sent_selection self.now.schema.now self.now.subscribes) selections.now)) }
+        ensures { IfOk result (λ sent. sent ≡ spec.with_front fronted place (map (λ s. s.sent parent) (map (spec.sent_selection self.now.schema.now self.now.subscribes) selections.now))) }
     {
-        let mut sent = front;
+        let mut sent = front(alloc, fronted, place)?;
         'selections: for selection in selections {
             sent.push(self.selection(alloc, selection, parent)?)?;
         }
