@@ -71,12 +71,7 @@ pub(crate) fn is_fronted(
 }
 
 /// Whether a set of this owner and type may have one field more.
-fn takes_front(
-    schema: &Schema,
-    subscribes: bool,
-    owner: Owner,
-    parent: Option<TypeId>,
-) -> bool
+fn takes_front(schema: &Schema, subscribes: bool, owner: Owner, parent: Option<TypeId>) -> bool
     ensures { result ≡ spec.takes_front schema.now subscribes (owner_of owner) parent }
 {
     match owner {

@@ -19,11 +19,7 @@ use text_types::{Items, Memory};
 
 /// For each selection set of a document, by its number, whether [`with_typename`](crate::with_typename)
 /// puts `__typename` at its front.
-pub fn fronts(
-    alloc: Global,
-    schema: &Schema,
-    document: &Document,
-) -> Result<Items<bool>, Memory>
+pub fn fronts(alloc: Global, schema: &Schema, document: &Document) -> Result<Items<bool>, Memory>
     ensures { IfOk result (λ fronts. fronts ≡ spec.fronts_of schema.now document.now) }
 {
     let lister = Lister {

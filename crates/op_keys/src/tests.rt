@@ -81,7 +81,10 @@ fn what_is_sent(rt: HostRuntime) {
         ("{me{id}}", "{me{__typename id}}"),
         ("{me{id __typename}}", "{me{id __typename}}"),
         ("{me{a:__typename}}", "{me{__typename a:__typename}}"),
-        ("{me{__typename@skip(if:true)}}", "{me{__typename __typename@skip(if:true)}}"),
+        (
+            "{me{__typename@skip(if:true)}}",
+            "{me{__typename __typename@skip(if:true)}}",
+        ),
         ("{...{me{id}}}", "{...{__typename me{__typename id}}}"),
         (
             "query A{me{id}}subscription B{...F}fragment F on Subscription{me{id}}",

@@ -15,7 +15,7 @@ set-returns t c =
     let parent = c.args.parent in
     let all = c.as_slice-selections.result.now in
     let level =
-        fronts_in_set_out schema subscribes owner parent c.args.set.now
-        ∙ ap (λ (some : List Selection). is_fronted schema subscribes owner parent (list_any is_plain some) ∷ fronts_inside schema subscribes parent some) (sym c.as_slice-selections.ensures)
-        ∙ ap (λ (b : Bool). b ∷ fronts_inside schema subscribes parent all) (sym c.is_fronted-fronted.ensures) in
+    fronts_in_set_out schema subscribes owner parent c.args.set.now
+    ∙ ap (λ (some : List Selection). is_fronted schema subscribes owner parent (list_any is_plain some) ∷ fronts_inside schema subscribes parent some) (sym c.as_slice-selections.ensures)
+    ∙ ap (λ (b : Bool). b ∷ fronts_inside schema subscribes parent all) (sym c.is_fronted-fronted.ensures) in
     told_first c.selections.result _ _ _ _ _ c.is_fronted-fronted.result c.in_ok-push.ensures.ok level c.selections.ensures
