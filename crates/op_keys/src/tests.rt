@@ -75,7 +75,7 @@ fn sent(alloc: Global, of: &str) -> Option<Text> {
 }
 
 #[test]
-fn what_is_sent(rt: HostRuntime) {
+fn what_is_sent(rt: HostRuntime) -> Result<(), Fail> {
     let alloc = rt.alloc();
     for (text, wanted) in [
         ("{me{id}}", "{me{__typename id}}"),
@@ -95,11 +95,10 @@ fn what_is_sent(rt: HostRuntime) {
             "query A{...F}fragment F on Query{__typename me{__typename id}}",
         ),
     ] {
-        match sent(alloc, text) {
-            Some(found) => assert!(rt; found.is(wanted), "at {text}"),
-            None => panic!("nothing at {text}"),
-        }
+        let found = sent(alloc, text).ok_or("nothing is sent")?;
+        assert!(rt; found.is(wanted), "at {text}");
     }
+    Ok(())
 }
 
 fn identity(alloc: Global, of: &str, variable: i64) -> Option<Identity> {
