@@ -35,6 +35,6 @@ fn parts_are_copied(rt: HostRuntime) -> Result<(), Fail> {
     let copy = Some(argument(alloc)?).copy_in(alloc)?;
     let argument = copy.ok_or("nothing")?;
     assert!(rt; argument.name.text.is("a"));
-    assert!(rt; matches!(argument.value.value, LiteralValue::List(items) if items.len() == 1));
+    assert!(rt; matches!(&argument.value.value, LiteralValue::List(items) if items.len() == 1));
     Ok(())
 }
