@@ -5,52 +5,52 @@ use crate::outside::{ALL_WELL, Meets, PLAIN, run};
 use std::test::Fail;
 
 /// The bytes of a schema, and the line that the run stops with.
-type Row = (&'static [u8], &'static str);
+type Row = (&'static [u8], &'static [u8]);
 
 const REFUSED: [Row; 11] = [
     (
         b"type Query {\n a: }",
-        "{\"out\":\"stopped\",\"status\":3,\"file\":\"schema\",\"code\":\"S1\",\"line\":2}\n",
+        b"{\"out\":\"stopped\",\"status\":3,\"file\":\"schema\",\"code\":\"S1\",\"line\":2}\n",
     ),
     (
         b"type Query { a: Int }\n# \xff",
-        "{\"out\":\"stopped\",\"status\":3,\"file\":\"schema\",\"code\":\"S1\",\"line\":2}\n",
+        b"{\"out\":\"stopped\",\"status\":3,\"file\":\"schema\",\"code\":\"S1\",\"line\":2}\n",
     ),
     (
         b"extend type Query { a: Int }",
-        "{\"out\":\"stopped\",\"status\":3,\"file\":\"schema\",\"code\":\"S2\",\"line\":1}\n",
+        b"{\"out\":\"stopped\",\"status\":3,\"file\":\"schema\",\"code\":\"S2\",\"line\":1}\n",
     ),
     (
         b"type Query { a: Int a: Int }\ntype __B { a: Int }",
-        "{\"out\":\"stopped\",\"status\":3,\"file\":\"schema\",\"code\":\"S3\",\"line\":1}\n",
+        b"{\"out\":\"stopped\",\"status\":3,\"file\":\"schema\",\"code\":\"S3\",\"line\":1}\n",
     ),
     (
         b"type Query { a: B }\nscalar __A",
-        "{\"out\":\"stopped\",\"status\":3,\"file\":\"schema\",\"code\":\"S4\",\"line\":2}\n",
+        b"{\"out\":\"stopped\",\"status\":3,\"file\":\"schema\",\"code\":\"S4\",\"line\":2}\n",
     ),
     (
         b"type Query { a: B }",
-        "{\"out\":\"stopped\",\"status\":3,\"file\":\"schema\",\"code\":\"S5\",\"line\":1}\n",
+        b"{\"out\":\"stopped\",\"status\":3,\"file\":\"schema\",\"code\":\"S5\",\"line\":1}\n",
     ),
     (
         b"type Query { a: Int }\nunion U = I |\n I2\ninterface I { a: Int } interface I2 { a: Int }",
-        "{\"out\":\"stopped\",\"status\":3,\"file\":\"schema\",\"code\":\"S6\",\"line\":2}\n",
+        b"{\"out\":\"stopped\",\"status\":3,\"file\":\"schema\",\"code\":\"S6\",\"line\":2}\n",
     ),
     (
         b"type Query\n implements I { a: Int }\ninterface I { b: Int }",
-        "{\"out\":\"stopped\",\"status\":3,\"file\":\"schema\",\"code\":\"S7\",\"line\":2}\n",
+        b"{\"out\":\"stopped\",\"status\":3,\"file\":\"schema\",\"code\":\"S7\",\"line\":2}\n",
     ),
     (
         b"type A { a: Int }",
-        "{\"out\":\"stopped\",\"status\":3,\"file\":\"schema\",\"code\":\"S8\",\"line\":0}\n",
+        b"{\"out\":\"stopped\",\"status\":3,\"file\":\"schema\",\"code\":\"S8\",\"line\":0}\n",
     ),
     (
         b"type Query { a(x: Int = \"q\"): Int }",
-        "{\"out\":\"stopped\",\"status\":3,\"file\":\"schema\",\"code\":\"S9\",\"line\":1}\n",
+        b"{\"out\":\"stopped\",\"status\":3,\"file\":\"schema\",\"code\":\"S9\",\"line\":1}\n",
     ),
     (
         b"type Query { a: Int }\n\n\n\n\n\n\n\n\n\n\ninput I { a: I! }",
-        "{\"out\":\"stopped\",\"status\":3,\"file\":\"schema\",\"code\":\"S9\",\"line\":12}\n",
+        b"{\"out\":\"stopped\",\"status\":3,\"file\":\"schema\",\"code\":\"S9\",\"line\":12}\n",
     ),
 ];
 
@@ -64,9 +64,9 @@ fn a_refused_schema_stops_the_run(rt: HostRuntime) -> Result<(), Fail> {
             ..ALL_WELL
         };
         let ran = run(rt.alloc(), &PLAIN, "{}\n", &meets)?;
-        assert_eq!(rt; ran.status, 3, "{stopped}");
-        assert_eq!(rt; ran.text.as_str(), stopped);
-        assert_eq!(rt; ran.taken, 0, "{stopped}");
+        assert_eq!(rt; ran.status, 3);
+        assert_eq!(rt; ran.text.as_bytes(), stopped);
+        assert_eq!(rt; ran.taken, 0);
     }
     Ok(())
 }
