@@ -13,8 +13,6 @@ mod keys;
 mod kind;
 mod laws;
 mod same;
-#[cfg(test)]
-mod tests;
 mod write;
 
 pub use cell::{Cell, Cells, Link, Links};

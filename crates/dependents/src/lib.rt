@@ -12,8 +12,6 @@ mod place;
 mod placing;
 mod reading;
 mod span;
-#[cfg(test)]
-mod tests;
 mod waking;
 
 pub use index::{Index, Subs};

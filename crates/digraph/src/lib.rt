@@ -12,8 +12,6 @@ mod laws;
 mod leaves;
 mod marks;
 mod search;
-#[cfg(test)]
-mod tests;
 
 pub use graph::Digraph;
 pub use laws::walks_are_decided;

@@ -18,8 +18,6 @@ mod laws;
 mod lookup;
 mod objects;
 mod steps;
-#[cfg(test)]
-mod tests;
 
 pub use cache_model::{Cell, EntityKey, FieldKey, Link, Links, Visited, Write, Writes};
 pub use coverage::{covers, covers_texts};

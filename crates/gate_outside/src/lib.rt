@@ -34,8 +34,3 @@ pub use shelf::{Shelf, ShelfError};
 pub use sink::{Sink, write_all};
 pub use source::{Failed, Source};
 pub use tear::Tear;
-
-#[cfg(test)]
-mod disk_tests;
-#[cfg(test)]
-mod tests;

@@ -21,8 +21,6 @@ mod quoting;
 mod refusal;
 mod response;
 mod sorting;
-#[cfg(test)]
-mod tests;
 mod value;
 mod writing;
 

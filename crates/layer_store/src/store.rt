@@ -1,6 +1,6 @@
 //! The store.
 
-ghost use Rattle.std.specs.Prelude.{◌≡◌, ◌+◌, ◌-◌, ◌<◌, ◌^◌, ◌↔◌, [], length, drop, OnOk, OnErr, IfOk};
+ghost use Rattle.std.specs.Prelude.{◌≡◌, ◌+◌, ◌-◌, ◌<◌, ◌^◌, ◌↔◌, true, [], length, drop, OnOk, OnErr, IfOk};
 ghost use Rattle.std.specs.Option.{option_copied};
 ghost use Rattle.cache_model.specs.declared.kind.Kind.TheVariants.{Empty};
 
@@ -86,6 +86,32 @@ impl Store {
             return Err(StoreError::Memory);
         };
         Ok(ticket)
+    }
+
+    /// Whether a ticket was drawn and isn't finished, so that its content may be filled. Takes no memory.
+    pub fn is_open(&self, ticket: Ticket) -> bool
+        ensures { (result ≡ true) ↔ IsOpen self.now ticket }
+    {
+        if ticket <= self.base_len {
+            return false;
+        }
+        match self.layers.get((ticket - self.base_len - 1) as usize) {
+            Some(layer) => !layer.finished,
+            None => false,
+        }
+    }
+
+    /// Whether a ticket may be finished: it is open, and its content isn't Optimistic. Takes no memory.
+    pub fn can_finish(&self, ticket: Ticket) -> bool
+        ensures { (result ≡ true) ↔ CanFinish self.now ticket }
+    {
+        if ticket <= self.base_len {
+            return false;
+        }
+        match self.layers.get((ticket - self.base_len - 1) as usize) {
+            Some(layer) => !layer.finished && layer.kind != Kind::Optimistic,
+            None => false,
+        }
     }
 
     /// Replaces the whole content of a ticket that isn't finished, also below later ones.
@@ -188,6 +214,3 @@ impl Lookup for Store {
         self.find(entity, field)
     }
 }
-
-#[cfg(test)]
-mod tests;

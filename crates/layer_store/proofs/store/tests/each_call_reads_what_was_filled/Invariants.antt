@@ -1,4 +1,0 @@
-use Rattle.layer_store.proofs.store.tests.each_call_reads_what_was_filled.Given as goal
-
-abbrev pub ghosts-reads : goal.ghosts-reads
-ghosts-reads g a = record { name = a.blank.name; parts = a.blank.parts }
