@@ -20,8 +20,6 @@ mod request;
 mod request_head;
 mod response;
 mod serving;
-#[cfg(test)]
-mod tests;
 
 pub use laws::{asked_once, decoded_once};
 pub use reply::reply_text;

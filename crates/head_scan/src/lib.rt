@@ -13,8 +13,6 @@ mod request;
 mod request_line;
 mod response;
 mod step;
-#[cfg(test)]
-mod tests;
 
 pub use lines::lines_ended;
 pub use request::RequestScan;

@@ -14,10 +14,6 @@ mod memory_keeper;
 mod offer;
 mod search;
 mod stage;
-#[cfg(test)]
-mod stage_tests;
-#[cfg(test)]
-mod tests;
 
 pub use keeper::{Keeper, PutError};
 pub use memory_keeper::{MemoryKeeper, NextRow};

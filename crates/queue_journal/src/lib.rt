@@ -18,10 +18,6 @@ mod opening;
 mod record;
 mod records;
 mod steps;
-#[cfg(test)]
-mod stop_tests;
-#[cfg(test)]
-mod tests;
 mod texts;
 
 pub use error::OpenError;

@@ -17,6 +17,3 @@ pub use dedup::Dedup;
 pub use in_flight::InFlight;
 pub use policy::{Plan, Policy, ReadingKind, decide};
 pub use sending::{Back, Sending};
-
-#[cfg(test)]
-mod tests;

@@ -53,8 +53,3 @@ pub use stage::Stage;
 pub use take_until::TakeUntil;
 pub use tap::Tap;
 pub use weighed::Weighed;
-
-#[cfg(test)]
-mod queue_tests;
-#[cfg(test)]
-mod tests;
