@@ -8,8 +8,6 @@ mod copy_in;
 mod executables;
 mod literals;
 mod selections;
-#[cfg(test)]
-mod tests;
 mod type_systems;
 mod types;
 

@@ -21,8 +21,6 @@ mod literals;
 mod name_lists;
 mod names;
 mod selections;
-#[cfg(test)]
-mod tests;
 mod type_systems;
 
 pub use documents::{documents_are_read, parse_document};

@@ -14,8 +14,6 @@ mod laws;
 mod mark;
 mod numbering;
 mod parts;
-#[cfg(test)]
-mod tests;
 
 pub use laws::{definition_marks_tell, marks_tell};
 pub use mark::Mark;

@@ -22,8 +22,6 @@ mod print;
 mod printer;
 mod punctuators;
 mod selections;
-#[cfg(test)]
-mod tests;
 mod type_systems;
 mod types;
 

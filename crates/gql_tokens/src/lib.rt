@@ -23,8 +23,6 @@ mod numbers;
 mod places;
 mod runs;
 mod strings;
-#[cfg(test)]
-mod tests;
 mod token;
 mod values;
 

@@ -1,4 +1,4 @@
-use crate::parse_document;
+use gql_documents::parse_document;
 use gql_tokens::{SyntaxError, nesting};
 use std::alloc::Global;
 

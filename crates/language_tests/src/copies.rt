@@ -1,4 +1,4 @@
-use crate::CopyIn;
+use gql_copying::CopyIn;
 use gql_model::{Argument, Literal, LiteralValue, Name};
 use gql_tokens::Place;
 use std::alloc::Global;

@@ -1,4 +1,4 @@
-use crate::{
+use gql_tokens::{
     Kind, Lexer, SyntaxError, Token, integer_value, lex, name_text, nesting, string_value,
 };
 use std::alloc::Global;

@@ -1,8 +1,8 @@
-use crate::{Mark, Numbering};
 use gql_model::{
     Definition, Document, Field, Fragment, InlineFragment, Name, Operation, OperationKind,
     Selection, SelectionSet,
 };
+use gql_numbering::{Mark, Numbering};
 use gql_tokens::Place;
 use std::alloc::Global;
 use std::test::Fail;

@@ -1,5 +1,5 @@
-use crate::print_document;
 use gql_documents::{nesting, parse_document};
+use gql_printing::print_document;
 use std::alloc::Global;
 use text_types::Text;
 
