@@ -18,10 +18,6 @@ mod reading;
 mod repeated;
 mod reserved;
 mod roots;
-#[cfg(test)]
-mod schema_rows;
-#[cfg(test)]
-mod tests;
 mod verdict;
 
 pub use error::{Refusal, SchemaError};

@@ -11,8 +11,6 @@ mod literals;
 mod marked;
 mod needs;
 mod numbering;
-#[cfg(test)]
-mod tests;
 
 pub use fillings::fills_itself_line;
 pub use needs::needs_itself_line;

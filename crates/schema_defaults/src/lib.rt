@@ -9,8 +9,6 @@ mod empty;
 mod fits;
 mod scalars;
 mod seen;
-#[cfg(test)]
-mod tests;
 
 pub use defaults::unfit_line;
 pub use doubled::is_doubled;

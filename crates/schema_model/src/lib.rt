@@ -10,8 +10,6 @@ mod lookups;
 mod possible;
 mod schema;
 mod table;
-#[cfg(test)]
-mod tests;
 
 pub use schema::{
     InputValue, Interfaced, RootName, RootNames, Schema, SchemaDirective, SchemaField, SchemaType,

@@ -10,8 +10,6 @@ mod definitions;
 mod depth;
 mod error;
 mod extensions;
-#[cfg(test)]
-mod tests;
 
 pub use definitions::type_definitions;
 pub use error::{Flaw, TextError};

@@ -1,6 +1,6 @@
-use crate::{fills_itself_line, needs_itself_line};
 use gql_model::{Literal, LiteralValue, TypeNode, TypeRef};
 use gql_tokens::Place;
+use schema_circles::{fills_itself_line, needs_itself_line};
 use schema_model::{InputValue, RootNames, Schema, SchemaType, Table, TypeForm};
 use std::alloc::Global;
 use std::test::Fail;

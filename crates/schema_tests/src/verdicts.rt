@@ -1,8 +1,7 @@
-use crate::error::SchemaError;
-use crate::verdict::judged;
 use gql_model::{
     FieldDefinition, Name, ObjectDefinition, ScalarDefinition, TypeNode, TypeRef, TypeSystemForm,
 };
+use gql_schema::{SchemaError, judged};
 use gql_tokens::Place;
 use std::alloc::Global;
 use std::test::Fail;

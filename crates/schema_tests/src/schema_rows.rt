@@ -1,7 +1,6 @@
 //! Texts that give no schema, each with its least code and line, and some that give one.
 
-use crate::error::SchemaError;
-use crate::reading::read_schema;
+use gql_schema::{SchemaError, read_schema};
 use std::test::Fail;
 
 /// A name, the text, and the code and line of its refusal.

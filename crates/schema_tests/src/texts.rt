@@ -1,5 +1,4 @@
-use crate::definitions::type_definitions;
-use crate::error::{Flaw, TextError};
+use schema_text::{Flaw, TextError, type_definitions};
 use std::test::Fail;
 
 /// How many definitions a text holds, or its flaw.

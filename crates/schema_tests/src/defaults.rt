@@ -1,8 +1,6 @@
-use crate::doubled::is_doubled;
-use crate::fits::literal_fits;
-use crate::seen::Seen;
 use gql_model::{Literal, LiteralValue, Name, ObjectField, TypeRef};
 use gql_tokens::Place;
+use schema_defaults::{Seen, is_doubled, literal_fits};
 use schema_model::{RootNames, Schema, SchemaType, Table, TypeForm};
 use std::alloc::Global;
 use std::test::Fail;

@@ -1,9 +1,8 @@
-use crate::schema::{
-    Interfaced, RootName, RootNames, Schema, SchemaField, SchemaType, TypeForm, TypeId,
-};
-use crate::table::Table;
 use gql_model::{OperationKind, TypeNode, TypeRef};
 use gql_tokens::Place;
+use schema_model::{
+    Interfaced, RootName, RootNames, Schema, SchemaField, SchemaType, Table, TypeForm, TypeId,
+};
 use std::alloc::Global;
 use std::test::Fail;
 use text_types::{Memory, Text};

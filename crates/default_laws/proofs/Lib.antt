@@ -1,0 +1,9 @@
+mod ConstantForms
+mod GraphLaws
+mod LiteralLaws
+mod ParseLaws
+mod RankLaws
+mod ReadLaws
+mod RoundLaws
+mod Rows
+mod TableLaws

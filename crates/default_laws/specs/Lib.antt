@@ -1,0 +1,3 @@
+pub mod Constants
+pub mod Ranks
+pub mod Settling

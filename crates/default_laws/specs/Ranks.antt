@@ -1,0 +1,23 @@
+-- How far a node is from the end of all walks, in a graph without circles.
+use Rattle.std.specs.Prelude.{◌≡◌, ℕ, ◌<◌, true, length}
+use Rattle.std.specs.List.{count_by, range_with_len}
+use Rattle.digraph.specs.Walks.{Graph, leads, reaches, Reaches}
+
+-- how many nodes a node reaches
+abbrev pub rank : Graph → ℕ → ℕ
+rank graph a = count_by (reaches graph a) (range_with_len 0 (length graph))
+
+-- no node is on a circle
+abbrev pub HasNoCircle : Graph → Type 0
+HasNoCircle graph = (a : ℕ) → Reaches graph a a → ⊥
+
+-- in a graph without circles ranks fall along each step
+abbrev pub FallsAlongSteps : Graph → Type 0
+FallsAlongSteps graph = (a b : ℕ) → leads graph a b ≡ true → b < length graph → rank graph b < rank graph a
+
+-- and each is below the number of nodes
+abbrev pub IsBelowNodes : Graph → Type 0
+IsBelowNodes graph = (a : ℕ) → a < length graph → rank graph a < length graph
+
+abbrev pub RanksFall : Type 0
+RanksFall = (graph : Graph) → HasNoCircle graph → FallsAlongSteps graph × IsBelowNodes graph
