@@ -4,6 +4,7 @@ ghost use Rattle.gql_model.specs.declared.selection.Selection.{out-Selection};
 ghost use Rattle.check_model.specs.Executables.{as_fragment};
 ghost use Rattle.check_model.specs.RootFields as roots;
 ghost use Rattle.execution_model.specs.Collection as spec;
+ghost use Rattle.gql_collection.specs.Keys.{HasDistinctKeys};
 ghost use Rattle.gql_collection.specs.States.{IsPrepared, collecting, context_of, option_fragment};
 
 use crate::collector::Collector;
@@ -25,10 +26,11 @@ fn deepest() -> u64
 
 impl<'a> Collector<'a> {
     /// The fields that joined sets, by their numbers, collect: by response key, in order of first
-    /// appearance.
+    /// appearance. No two groups have one response key.
     pub fn collect(&self, alloc: Global, sets: &[u64]) -> Result<Items<Group>, Memory>
         requires { IsPrepared self.now }
-        ensures { IfOk result (λ groups. groups ≡ spec.collected (context_of self.now) sets.now) }
+        ensures groups { IfOk result (λ groups. groups ≡ spec.collected (context_of self.now) sets.now) }
+        ensures keys { IfOk result (λ groups. HasDistinctKeys groups) }
     {
         let mut state = State::new(alloc);
         'sets: for set in sets {

@@ -1,7 +1,9 @@
 ghost use Rattle.std.specs.Prelude.{◌≡◌, [], ◌∷◌, ◌++◌, ℕ, List, None, IfOk, OnOk};
 ghost use Rattle.std.specs.BTreeMap.{get};
+ghost use Rattle.std.proofs.Props.{props};
 ghost use Rattle.text_types.specs.Texts.{text_cmp};
 ghost use Rattle.execution_model.specs.Collection.{group_place, joined_set, joined_at, begun, grouped};
+ghost use Rattle.gql_collection.specs.Keys.{HasDistinctKeys};
 
 use execution_model::Group;
 use std::alloc::Global;
@@ -14,6 +16,7 @@ pub(crate) struct Groups {
     groups: Items<Group>,
     places: BTreeMap<Text, usize>,
     ghost placed: { (name : List ℕ) → get text_cmp places name ≡ group_place name groups },
+    ghost distinct: { HasDistinctKeys groups } by { Prim.hlevel props },
 }
 
 impl Groups {
@@ -27,7 +30,8 @@ impl Groups {
     }
 
     pub(crate) fn into_items(self) -> Items<Group>
-        ensures { result ≡ self.groups }
+        ensures groups { result ≡ self.groups }
+        ensures keys { HasDistinctKeys result }
     {
         self.groups
     }

@@ -3,7 +3,7 @@
 //! index of fragments of `fragment_rules`.
 //!
 //! Its one contract: [`Collector::collect`] gives the groups of fields by response key, in order of first
-//! appearance, each with its joined sets. It goes over each selection once, finds keys and fragments in
+//! appearance, each with its joined sets, and no two with one key. It goes over each selection once, finds keys and fragments in
 //! logarithmic time, and copies a response key when its group begins and a fragment's name when it is
 //! first spread; [`is_passed_over`] tells which selections are left out.
 #![tactic(auto)]

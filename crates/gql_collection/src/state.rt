@@ -2,6 +2,7 @@ ghost use Rattle.std.specs.Prelude.{◌≡◌, IfOk};
 ghost use Rattle.gql_model.specs.declared.selection.Field.{out-Field};
 ghost use Rattle.check_model.specs.Fields.{response_key};
 ghost use Rattle.execution_model.specs.Collection as spec;
+ghost use Rattle.gql_collection.specs.Keys.{HasDistinctKeys};
 ghost use Rattle.gql_collection.specs.States.{collecting};
 
 use crate::groups::Groups;
@@ -31,7 +32,8 @@ impl State {
     }
 
     pub(crate) fn into_groups(self) -> Items<Group>
-        ensures { result ≡ (collecting self).groups }
+        ensures groups { result ≡ (collecting self).groups }
+        ensures keys { HasDistinctKeys result }
     {
         self.groups.into_items()
     }

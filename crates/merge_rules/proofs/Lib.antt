@@ -1,7 +1,11 @@
+mod AlikeLaws
 mod ConflictLaws
 mod ExpandLaws
+mod KeptLaws
+mod NumberLaws
 mod PathLaws
 mod RootLaws
 mod RowLaws
 mod SameLaws
+mod StandLaws
 mod WeightLaws

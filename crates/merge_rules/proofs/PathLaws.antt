@@ -40,7 +40,7 @@ same_last [] (y ∷ q) k l = ap (λ b. bytes_eq k y && b) (none_last q l) ∙ an
 same_last (x ∷ p) [] k l = ap (λ b. bytes_eq x l && b) (last_none p k) ∙ and_false (bytes_eq x l)
 same_last (x ∷ p) (y ∷ q) k l = ap (λ b. bytes_eq x y && b) (same_last p q k l) ∙ and_assoc (bytes_eq x y) (same_path p q) (bytes_eq k l)
 
-both_true : (a b : Bool) → (a && b) ≡ true → b ≡ true
+pub both_true : (a b : Bool) → (a && b) ≡ true → b ≡ true
 both_true true b h = h
 both_true false b h = absurd (cc)
 
@@ -97,11 +97,11 @@ even s rows fs stands a within = even_below s rows fs stands (length rows) a wit
 
 -- ---- two rows
 
-path_of : (s : Schema) (rows : List Row) (fs : PlacedFields) (i : ℕ) (row : Row) → Stands s rows fs → slice_get rows i ≡ Some row
+pub path_of : (s : Schema) (rows : List Row) (fs : PlacedFields) (i : ℕ) (row : Row) → Stands s rows fs → slice_get rows i ≡ Some row
     → above_path fs (Some i) ≡ above_path fs row.above ++ row.key.now ∷ []
 path_of s rows fs i row stands is = ap (λ (o : Option Placed). option_map_or (λ f. f.path) o []) (stands.field i row is)
 
-parents_of : (s : Schema) (rows : List Row) (fs : PlacedFields) (i : ℕ) (row : Row) → Stands s rows fs → slice_get rows i ≡ Some row
+pub parents_of : (s : Schema) (rows : List Row) (fs : PlacedFields) (i : ℕ) (row : Row) → Stands s rows fs → slice_get rows i ≡ Some row
     → above_parents fs (Some i) ≡ above_parents fs row.above ++ row.parent ∷ []
 parents_of s rows fs i row stands is = ap (λ (o : Option Placed). option_map_or (λ f. f.parents) o []) (stands.field i row is)
 
@@ -134,7 +134,7 @@ apart_top s rows fs i stands within =
     let is : slice_get rows i ≡ Some row = (row_there rows i within).1 in
     sym (ap (λ p. same_path p []) (path_of s rows fs i row stands is) ∙ last_none (above_path fs row.above) row.key.now)
 
-front_true : (a b : Bool) → (a && b) ≡ true → a ≡ true
+pub front_true : (a b : Bool) → (a && b) ≡ true → a ≡ true
 front_true true b h = refl
 front_true false b h = absurd (cc)
 

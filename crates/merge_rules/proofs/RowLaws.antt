@@ -1,5 +1,5 @@
 -- Rows that stand for fields, and what they stand for once some are added.
-use Rattle.std.proofs.Common.{◌≡◌, ℕ, zero, suc, ◌+◌, ◌<◌, ◌≤◌, List, [], ◌∷◌, ◌++◌, map, length, refl, ap, sym, subst, ◌∙◌, arith, append_assoc, append-nil, length-append, Bool, true, false, ◌||◌, ltb}
+use Rattle.std.proofs.Common.{◌≡◌, ℕ, ◌+◌, ◌<◌, ◌≤◌, List, [], ◌∷◌, ◌++◌, map, length, refl, ap, sym, subst, ◌∙◌, arith, append_assoc, append-nil, length-append, Bool, true, false, ◌||◌, ltb}
 use Rattle.std.specs.Prelude.{Option, None, Some, slice_get}
 use Rattle.std.specs.Option.{option_map_or}
 use Rattle.std.specs.List.{list_any}
@@ -118,32 +118,6 @@ pushed s rows fs r stands within = record {
 or_assoc : (a b c : Bool) → ((a || b) || c) ≡ (a || (b || c))
 or_assoc true b c = refl
 or_assoc false b c = refl
-
-first_found : (a b : Bool) → (a || b) ≡ ((a || b) || (a || false))
-first_found true b = refl
-first_found false true = refl
-first_found false false = refl
-
--- a test that passes at a place
-found_at : (test : Placed → Bool) (fs : PlacedFields) (i : ℕ) (f : Placed) → slice_get fs i ≡ Some f → list_any test fs ≡ (list_any test fs || (test f || false))
-found_at test [] i f is = absurd (omega (arith, slice_get_within [] i f is))
-found_at test (x ∷ fs) zero f is =
-    let same : x ≡ f = cc in
-    subst (λ (y : Placed). (test y || list_any test fs) ≡ ((test y || list_any test fs) || (test f || false))) (sym same) (first_found (test f) (list_any test fs))
-found_at test (x ∷ fs) (suc i) f is =
-    ap (λ b. test x || b) (found_at test fs i f is) ∙ sym (or_assoc (test x) (list_any test fs) (test f || false))
-
--- a row for the same field is there
-pub there : (s : Schema) (rows : List Row) (fs : PlacedFields) (field : Placed) (place : ℕ) → Stands s rows fs → slice_get fs place ≡ Some field
-    → Put s rows fs field place
-there s rows fs field place stands at = record {
-  grown = record {
-    more = [];
-    stands = subst (λ (gs : PlacedFields). Stands s rows gs) (sym (append-nil fs)) stands;
-    same = λ test. ap (list_any test) (append-nil fs) ∙ found_at test fs place field at;
-  };
-  at = ap (λ gs. slice_get gs place) (append-nil fs) ∙ at;
-}
 
 -- ---- fields one after another
 

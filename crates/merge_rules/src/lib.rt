@@ -4,11 +4,14 @@
 //! Each function answers for one rule of `check_model`, over the whole document.
 #![tactic(auto)]
 
+mod alike;
 mod conflicts;
 mod expand;
+mod kept;
 mod keys;
 mod kin;
 mod merging;
+mod paths;
 mod roots;
 mod rows;
 mod same;

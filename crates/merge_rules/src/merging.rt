@@ -51,5 +51,6 @@ fn operation_conflicts<'a>(
     };
     let fuel = scope.document.definitions.len();
     expand_set(scope, &mut rows, fuel, &operation.selection_set, top)?;
-    Ok(some_conflict(scope, rows.as_slice()))
+    let conflict = some_conflict(alloc, scope, rows.as_slice())?;
+    Ok(conflict)
 }

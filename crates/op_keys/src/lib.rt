@@ -16,8 +16,6 @@ mod laws;
 mod listing;
 mod owner;
 mod sending;
-#[cfg(test)]
-mod tests;
 
 pub use identity::{Identity, canonical};
 pub use keys::{Keys, KeysError};

@@ -1,19 +1,32 @@
-use Rattle.std.proofs.Common.{arith}
-use Rattle.std.specs.List.{list_any}
-use Rattle.check_model.specs.MergeRules.{conflict}
-use Rattle.merge_rules.proofs.ConflictLaws.{passes, goes_on, none_passes}
+use Rattle.std.proofs.Common.{◌≡◌, List, ℕ, Option, length, ap, sym, subst, arith}
+use Rattle.std.proofs.lemmas.Option.{slice_get-get_or}
+use Rattle.merge_rules.specs.Kept.{Kept, TakenIn}
+use Rattle.merge_rules.specs.Paths.{AreNumbered}
+use Rattle.merge_rules.proofs.KeptLaws.{nothing_taken, nothing_kept, all_taken}
 use Rattle.merge_rules.proofs.conflicts.some_conflict.Goals as goal
 
-pub rows-preserved : goal.rows-preserved
-rows-preserved c = λ fs stands.
-    goes_on (λ x. list_any (conflict c.args.scope.now.schema.now x) fs) fs c.rows.a c.conflicts_with_some.result _ (omega (arith, stands.long))
-    (λ x x_is. c.conflicts_with_some.ensures fs x stands x_is) c.if-conflicts_with_some.false (c.rows.invariant fs stands)
+pub rows-init : goal.rows-init
+rows-init c = λ fields stands numbered.
+    nothing_taken c.args.scope.now.schema.now fields _ c.new-kept.result (nothing_kept c.new-kept.result c.new-kept.ensures.empty)
 
-pub returns-then-conflicts_with_some : goal.returns-then-conflicts_with_some
-returns-then-conflicts_with_some c = λ fs stands.
-    passes (λ x. list_any (conflict c.args.scope.now.schema.now x) fs) fs c.rows.a c.conflicts_with_some.result _ (omega (arith, stands.long))
-    (λ x x_is. c.conflicts_with_some.ensures fs x stands x_is) c.if-conflicts_with_some.true (c.rows.invariant fs stands)
+pub rows-preserved : goal.rows-preserved
+rows-preserved c = λ fields stands numbered.
+    subst (λ (o : Option Kept). TakenIn c.args.scope.now.schema.now fields c.as_slice-number-items.result.now c.rows.place o) c.in-Some.is
+    (c.in_ok-more.ensures fields c.as_slice-number-items.result.now stands numbered
+    (slice_get-get_or c.as_slice-number-items.result.now c.rows.place 0 c.rows-test.true) (c.rows.invariant fields stands numbered))
+
+pub returns-in-None : goal.returns-in-None
+returns-in-None c = λ fields stands.
+    let numbered : AreNumbered fields c.as_slice-number-items.result.now =
+    subst (λ (ns : List ℕ). AreNumbered fields ns) (sym c.as_slice-number-items.ensures.value) (c.in_ok-numbers.ensures.numbered c.args.scope.now.schema.now fields stands) in
+    sym (subst (λ (o : Option Kept). TakenIn c.args.scope.now.schema.now fields c.as_slice-number-items.result.now c.rows.place o) c.in-None.is
+    (c.in_ok-more.ensures fields c.as_slice-number-items.result.now stands numbered
+    (slice_get-get_or c.as_slice-number-items.result.now c.rows.place 0 c.rows-test.true) (c.rows.invariant fields stands numbered)))
 
 pub returns : goal.returns
-returns c = λ fs stands.
-    none_passes (λ x. list_any (conflict c.args.scope.now.schema.now x) fs) fs c.rows.a _ (omega (arith, stands.long)) (c.rows.invariant fs stands)
+returns c = λ fields stands.
+    let numbered : AreNumbered fields c.as_slice-number-items.result.now =
+    subst (λ (ns : List ℕ). AreNumbered fields ns) (sym c.as_slice-number-items.ensures.value) (c.in_ok-numbers.ensures.numbered c.args.scope.now.schema.now fields stands) in
+    let size : length c.as_slice-number-items.result.now ≡ length c.in_ok-numbers.numbers.items = ap length c.as_slice-number-items.ensures.value in
+    all_taken c.args.scope.now.schema.now fields c.as_slice-number-items.result.now c.rows.kept c.rows.place (c.rows.invariant fields stands numbered)
+    (omega (arith, stands.long, size, c.in_ok-numbers.ensures.long, c.rows-test.false))

@@ -21,8 +21,8 @@ returns c =
     (followed_within c.len-fuel.result [] (fragment_fields c.args.scope.now.schema.now) c.args.scope.now.document.now)
     c.args.operation.now.selection_set c.root_parent-parent.result in
     let grown : Grown c.args.scope.now.schema.now c.expand_set.new.rows.items [] (map (under [] []) added) = c.in_ok-expand_set.ensures.grows [] start in
-    shown c.args.scope.now.schema.now c.expand_set.new.rows.items added grown c.some_conflict.result
-    (c.some_conflict.ensures grown.more (subst (λ (rs : List Row). Stands c.args.scope.now.schema.now rs grown.more) (sym c.as_slice.ensures.value) grown.stands))
+    shown c.args.scope.now.schema.now c.expand_set.new.rows.items added grown c.in_ok-conflict.conflict
+    (c.in_ok-conflict.ensures grown.more (subst (λ (rs : List Row). Stands c.args.scope.now.schema.now rs grown.more) (sym c.as_slice.ensures.value) grown.stands))
     ∙ ap (λ n. some_conflict c.args.scope.now.schema.now (fields_of_set c.args.scope.now.schema.now
     (followed_within n [] (fragment_fields c.args.scope.now.schema.now) c.args.scope.now.document.now)
     c.args.operation.now.selection_set c.root_parent-parent.result)) c.len-fuel.ensures

@@ -1,13 +1,8 @@
 use Rattle.std.proofs.Common.{◌≡◌, ℕ, List, [], ◌∷◌, ◌++◌, length, sym, subst, arith, rules}
 use Rattle.merge_rules.specs.declared.rows.Row.{Row}
-use Rattle.merge_rules.specs.Rows.{field_of_row, Stands, Put}
-use Rattle.merge_rules.proofs.RowLaws.{there, pushed}
+use Rattle.merge_rules.specs.Rows.{field_of_row, Put}
+use Rattle.merge_rules.proofs.RowLaws.{pushed}
 use Rattle.merge_rules.proofs.rows.put.Goals as goal
-
-pub returns-in-Some-clause-field : goal.returns-in-Some-clause-field
-returns-in-Some-clause-field c = λ s fs stands.
-    there s c.args.rows.now.items fs (field_of_row s fs c.args.row) c.in-Some.place stands
-    (c.in-Some.ensures.field s fs (subst (λ (rs : List Row). Stands s rs fs) (sym c.as_slice.ensures.value) stands))
 
 pub returns-clause-field : goal.returns-clause-field
 returns-clause-field c = λ s fs stands.
