@@ -9,11 +9,8 @@ use Rattle.gql_value.specs.declared.value.Value.{Value, out-Value}
 use Rattle.gql_value.specs.declared.value.Value.TheOpen.{Value-F}
 use Rattle.gql_value.specs.Json.{dotted}
 use Rattle.schema_model.specs.Tables.{entry}
-
--- a step into an answer: to the member of a response key, or to the item of an index
-pub data Step : Type 0 where
-  Key : List ℕ → Step
-  Index : ℕ → Step
+use Rattle.answer_model.specs.declared.step.Step.{Step}
+use Rattle.answer_model.specs.declared.step.Step.TheVariants.{Key, Index}
 
 -- the steps from `data` to a place in it
 abbrev pub Path : Type 0

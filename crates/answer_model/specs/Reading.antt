@@ -20,6 +20,8 @@ use Rattle.cache_model.specs.Maps.{CellMap}
 use Rattle.execution_model.specs.Values.{null_value, text_value, list_value, object_value, all_of}
 use Rattle.execution_model.specs.Collection.{SetId, deepest}
 use Rattle.execution_model.specs.Asked.{Execution, Asked, asked_by_client, root_type, root_sets}
+use Rattle.answer_model.specs.declared.cache_reading.Reading.{Reading}
+use Rattle.answer_model.specs.declared.cache_reading.Reading.TheVariants.{Hit, Partial, Miss}
 use Rattle.answer_model.specs.Keys.{field_key}
 use Rattle.answer_model.specs.Fits.{fitted}
 use Rattle.answer_model.specs.Types.{ObjectType, type_told, with_name}
@@ -192,11 +194,6 @@ positions_within (suc n) execution cells sets type entity =
     map (position_of (found_by (positions_within n execution cells)) execution.schema cells type entity) (asked_by_client execution type.0 sets)
 
 -- ---- the whole reading
-
-pub data Reading : Type 0 where
-  Hit : Value → Reading
-  Partial : Value → Reading
-  Miss : Reading
 
 -- a root field that isn't absent, but for `__typename`
 abbrev pub has_something : Position → Bool

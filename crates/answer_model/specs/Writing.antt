@@ -28,7 +28,8 @@ use Rattle.entity_keys.specs.Objects.{object_key}
 use Rattle.execution_model.specs.Values.{Pairs, null_value, text_value}
 use Rattle.execution_model.specs.Collection.{SetId, deepest}
 use Rattle.execution_model.specs.Asked.{Execution, Asked, asked_as_sent, chosen_kind, root_type, root_sets}
-use Rattle.answer_model.specs.Paths.{Key, Path, at_places, each, is_above_error, error_paths}
+use Rattle.answer_model.specs.declared.step.Step.TheVariants.{Key}
+use Rattle.answer_model.specs.Paths.{Path, at_places, each, is_above_error, error_paths}
 use Rattle.answer_model.specs.Keys.{field_key}
 use Rattle.answer_model.specs.Fits.{fitted}
 use Rattle.answer_model.specs.Types.{ObjectType, text_of, type_of_members, with_name}

@@ -1,0 +1,4 @@
+pub mod EachLaws
+pub mod HeightLaws
+mod MemberLaws
+mod PathLaws

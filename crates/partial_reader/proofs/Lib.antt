@@ -1,0 +1,4 @@
+mod FoundLaws
+mod StepLaws
+mod CutLaws
+mod Locality
