@@ -1,0 +1,3 @@
+mod DepthLaws
+mod IntoLaws
+mod NameLaws

@@ -1,0 +1,5 @@
+mod DefaultLaws
+mod ListLaws
+mod NullLaws
+mod OptionLaws
+mod RuleLaws

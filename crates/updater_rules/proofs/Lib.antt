@@ -1,0 +1,4 @@
+mod Documents
+mod FrontLaws
+mod KeyOrder
+mod Refusals

@@ -1,0 +1,3 @@
+pub mod Errors
+pub mod Keys
+pub mod Naming
