@@ -1,4 +1,4 @@
 mod AnswerLaws
-mod FrameLaws
+mod DispatchLaws
 mod HistoryLaws
 mod Pieces

@@ -1,29 +1,36 @@
 //! The gate's state, and what a line does to it.
 
-ghost use Rattle.std.specs.Prelude.{◌≡◌, ◌++◌, ◌-◌, ◌==◌, ◌∷◌, [], ℕ, List, OnOk, Some, slice_set, filter, find, not};
+ghost use Rattle.std.specs.Prelude.{◌≡◌, ◌++◌, ◌-◌, ◌==◌, ◌∷◌, [], ℕ, List, OnOk, IfOk, IfErr, Ok, Some, slice_set, filter, find, not};
 ghost use Rattle.std.specs.Option.{option_copied};
 ghost use Rattle.serde_json.specs.View.{view};
 ghost use Rattle.plain_queries.specs.Plain.{plain_query_of};
+ghost use Rattle.schema_model.specs.Tables.{tabled};
+ghost use Rattle.machine_model.specs.declared.output.Refusal.TheVariants.{E3};
+ghost use Rattle.frame_reading.specs.Errors.{IsFrameError, dispatch_meant, frame_meant};
+ghost use Rattle.judged_dispatch.specs.declared.kinds.Kinds.TheVariants.{Queries};
+ghost use Rattle.judged_dispatch.specs.Judged.{judged};
+ghost use Rattle.judged_dispatch.specs.Told.{accepted_by};
 ghost use Rattle.gate_machine.specs.Machine as machine;
 
 use crate::answer::write_body;
-use crate::frame::{Frame, frame_of, read_json};
-use crate::line::{Cause, push_fetch, push_refused, push_reply};
+use crate::line::{push_fetch, push_refused, push_reply};
 use crate::reading::read_query;
+use frame_reading::{Dispatch, Frame, FrameError, frame_of, read_json};
 use gate_machine::{OpenOperation, Write};
-use gql_documents::{Document, SyntaxError, nesting, parse_document};
+use gql_model::Document;
 use gql_value::Value;
+use judged_dispatch::{Judged, Kinds, Service, judge, table_of};
+use machine_model::Refusal;
 use plain_queries::{SelectionSet, plain_query, sent_text};
 use std::alloc::Global;
 use std::marker::Model;
-use text_types::{Bytes, Items, Memory};
+use text_types::{Bytes, Items, Memory, Text};
 
-/// Brackets of a query nest at most so deep.
-const DEEPEST: u64 = 64;
-
-/// The operations that wait for their responses, and the present results of all that were sent.
+/// What documents are judged under, the operations that wait for their responses, and the present
+/// results of all that were sent.
 #[derive(Drop)]
 pub struct Gate {
+    service: Service,
     waiting: Vec<OpenOperation>,
     history: Vec<Items<Write>>,
 }
@@ -36,17 +43,21 @@ impl Model for Gate {
 
     ghost Value = { GatewayState };
 
-    ghost coded = { Prim.hlevel (codes, selection.the_row.coded, value.the_row.coded) };
+    ghost use Rattle.gql_model.specs.contracts.type_ref.TypeRef as type_ref;
+    ghost use Rattle.gql_model.specs.contracts.literal.Literal as literal;
 
-    ghost view = { λ gate. record { waiting = gate.waiting.items; history = gate.history.items } };
+    ghost coded = { Prim.hlevel (codes, selection.the_row.coded, value.the_row.coded, type_ref.the_row.coded, literal.the_row.coded) };
+
+    ghost view = { λ gate. record { service = gate.service; waiting = gate.waiting.items; history = gate.history.items } };
 }
 
 impl Gate {
-    /// A gate that nothing was sent to.
-    pub fn new(alloc: Global) -> Gate
-        ensures { result ≡ machine.empty_state }
+    /// A gate that nothing was sent to, for documents of this service.
+    pub fn new(alloc: Global, service: Service) -> Gate
+        ensures { result ≡ machine.empty_state service }
     {
         Gate {
+            service,
             waiting: Vec::new(alloc),
             history: Vec::new(alloc),
         }
@@ -67,7 +78,7 @@ impl Gate {
         ensures state { OnOk result (self.new ≡ (machine.line_taken number line.now self.old).state) }
     {
         match read_json(alloc, line)? {
-            None => push_refused(number, Cause::NotJson, out),
+            None => push_refused(number, &Refusal::E2, out),
             Some(json) => self.take_json(alloc, number, &json, out),
         }
     }
@@ -84,10 +95,28 @@ impl Gate {
         ensures state { OnOk result
             (self.new ≡ (machine.json_taken number self.old (Some (view json.now))).state) }
     {
-        match frame_of(json) {
-            Frame::Dispatch { id, query } => self.dispatch(alloc, number, id, query, out),
+        match frame_of(alloc, json) {
+            Ok(frame) => self.take_frame(alloc, number, frame, out),
+            Err(FrameError::Refused(refusal)) => push_refused(number, &refusal, out),
+            Err(FrameError::Memory) => Err(Memory),
+        }
+    }
+
+    fn take_frame(
+        &mut self,
+        alloc: Global,
+        number: u64,
+        frame: Frame<'_>,
+        out: &mut Bytes,
+    ) -> Result<(), Memory>
+        ensures text { OnOk result (out.new
+            ≡ out.old ++ (machine.frame_taken number self.old (Ok (frame_meant frame.entry))).text) }
+        ensures state { OnOk result
+            (self.new ≡ (machine.frame_taken number self.old (Ok (frame_meant frame.entry))).state) }
+    {
+        match frame {
+            Frame::Dispatch(asked) => self.dispatch(alloc, number, asked, out),
             Frame::Response { fetch, body } => self.respond(alloc, number, fetch, body, out),
-            Frame::Unknown => push_refused(number, Cause::NotAFrame, out),
         }
     }
 
@@ -95,44 +124,54 @@ impl Gate {
         &mut self,
         alloc: Global,
         number: u64,
-        id: u64,
-        query: &str,
+        asked: Dispatch<'_>,
         out: &mut Bytes,
     ) -> Result<(), Memory>
         ensures text { OnOk result
-            (out.new ≡ out.old ++ (machine.dispatched number id query.now self.old).text) }
-        ensures state { OnOk result (self.new ≡ (machine.dispatched number id query.now self.old).state) }
+            (out.new ≡ out.old ++ (machine.dispatched number (dispatch_meant asked.entry) self.old).text) }
+        ensures state { OnOk result (self.new ≡ (machine.dispatched number (dispatch_meant asked.entry) self.old).state) }
     {
-        if self.is_waiting(id) {
-            return push_refused(number, Cause::NotAFrame, out);
+        if self.is_waiting(asked.id) {
+            return push_refused(number, &bad_member(alloc, "do")?, out);
         }
-        self.dispatch_text(alloc, number, id, query, out)
+        self.dispatch_new(alloc, number, asked, out)
     }
 
-    /// Reads the text of a query whose id doesn't wait.
-    fn dispatch_text(
+    /// Judges a dispatch whose id doesn't wait.
+    fn dispatch_new(
         &mut self,
         alloc: Global,
         number: u64,
-        id: u64,
-        query: &str,
+        asked: Dispatch<'_>,
         out: &mut Bytes,
     ) -> Result<(), Memory>
         ensures text { OnOk result
-            (out.new ≡ out.old ++ (machine.text_dispatched number id query.now self.old).text) }
+            (out.new ≡ out.old ++ (machine.dispatch_judged number (dispatch_meant asked.entry) self.old).text) }
         ensures state { OnOk result
-            (self.new ≡ (machine.text_dispatched number id query.now self.old).state) }
+            (self.new ≡ (machine.dispatch_judged number (dispatch_meant asked.entry) self.old).state) }
     {
-        if nesting(query.as_bytes()) > DEEPEST {
-            return push_refused(number, Cause::NestsTooDeep, out);
+        let id = asked.id;
+        match self.judge_dispatch(alloc, asked) {
+            Ok(judged) => self.dispatch_document(alloc, number, id, &judged.checked.document, out),
+            Err(FrameError::Refused(refusal)) => push_refused(number, &refusal, out),
+            Err(FrameError::Memory) => Err(Memory),
         }
-        match parse_document(alloc, query.as_bytes()) {
-            Ok(document) => self.dispatch_document(alloc, number, id, &document, out),
-            Err(SyntaxError::Memory) => Err(Memory),
-            Err(SyntaxError::Syntax { row, column }) => {
-                push_refused(number, Cause::NotADocument { row, column }, out)
-            }
-        }
+    }
+
+    /// The operation that a dispatch asks for, or the first refusal.
+    fn judge_dispatch(&self, alloc: Global, asked: Dispatch<'_>) -> Result<Judged, FrameError>
+        ensures accepted { IfOk result (λ operation. judged Queries self.now.service asked.entry.query.now asked.entry.operation (tabled asked.entry.variables) ≡ Ok (accepted_by operation)) }
+        ensures refused { IfErr result (IsFrameError (judged Queries self.now.service asked.entry.query.now asked.entry.operation (tabled asked.entry.variables))) }
+    {
+        let Dispatch {
+            query,
+            operation,
+            variables,
+            ..
+        } = asked;
+        let values = table_of(alloc, variables)?;
+        let name = operation.as_ref();
+        judge(alloc, &self.service, Kinds::Queries, query, name, &values)
     }
 
     fn dispatch_document(
@@ -150,7 +189,7 @@ impl Gate {
     {
         match plain_query(alloc, document)? {
             Some(query) => self.answer_or_send(alloc, id, query, out),
-            None => push_refused(number, Cause::NotAPlainQuery, out),
+            None => push_refused(number, &bad_member(alloc, "query")?, out),
         }
     }
 
@@ -209,10 +248,10 @@ impl Gate {
             (self.new ≡ (machine.responded number fetch (view body.now) self.old).state) }
     {
         let Some(operation) = waiting_under(fetch, self.waiting.as_slice()) else {
-            return push_refused(number, Cause::NotAFrame, out);
+            return push_refused(number, &bad_member(alloc, "do")?, out);
         };
         match write_body(alloc, &operation.query, body)? {
-            None => return push_refused(number, Cause::NotAFrame, out),
+            None => return push_refused(number, &bad_member(alloc, "do")?, out),
             Some(writes) => complete(alloc, operation, writes, &mut self.history, out)?,
         }
         let ended = operation.fetch;
@@ -260,4 +299,12 @@ fn forget(fetch: u64, waiting: &mut Vec<OpenOperation>)
     ensures { waiting.new.items ≡ filter (λ other. not (other.fetch == fetch)) waiting.old.items }
 {
     waiting.retain(|other| other.fetch != fetch);
+}
+
+/// The refusal that names a member.
+fn bad_member(alloc: Global, name: &str) -> Result<Refusal, Memory>
+    ensures { IfOk result (λ refusal. refusal ≡ E3 name.now) }
+{
+    let member = Text::from_str(alloc, name)?;
+    Ok(Refusal::E3 { member })
 }

@@ -1,16 +1,14 @@
 //! The gate: it takes the lines of one client and tells what is to be written, one line at a time.
 //!
-//! It stands on the values, the document language and the machine's definitions. Its one contract
+//! It stands on the reading of frames, the judgement of dispatches and the machine's definitions. Its one contract
 //! for the layer above is [`Gate::take_line`]: what it writes and the state after are those of the
 //! machine's definition, for every line of bytes in every state.
 #![tactic(auto)]
 
 mod answer;
-mod frame;
 mod gate;
 mod history;
 mod line;
-mod member;
 mod object_key;
 mod reading;
 

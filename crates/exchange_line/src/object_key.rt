@@ -7,7 +7,7 @@ ghost use Rattle.gate_machine.specs.Answers as spec;
 ghost use Rattle.gate_machine.specs.Answers.{writings_of};
 ghost use Rattle.exchange_line.specs.Written.{key_told};
 
-use crate::member::member_text;
+use frame_reading::member_text;
 use gate_machine::{EntityKey, Owner, Place};
 use plain_queries::SelectionSet;
 use serde_json::Value as Json;

@@ -2,7 +2,6 @@ pub mod Keys
 pub mod Cells
 pub mod Readings
 pub mod Answers
-pub mod Frames
 pub mod Outputs
 pub mod Machine
 pub mod Runs

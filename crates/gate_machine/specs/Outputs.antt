@@ -2,6 +2,8 @@
 use Rattle.std.specs.Prelude.{ℕ, List, ◌++◌, codes, decimal}
 use Rattle.gql_value.specs.declared.value.Value.{Value}
 use Rattle.gql_value.specs.Text.{text_of, quoted}
+use Rattle.machine_model.specs.declared.output.Refusal.{Refusal}
+use Rattle.machine_model.specs.declared.output.Refusal.TheVariants as refusal
 
 -- the answer to an operation
 abbrev pub reply_line : ℕ → Value → List ℕ
@@ -11,25 +13,29 @@ reply_line id answer = codes "{\"out\":\"reply\",\"id\":" ++ decimal id ++ codes
 abbrev pub fetch_line : ℕ → List ℕ → List ℕ
 fetch_line fetch query = codes "{\"out\":\"fetch\",\"fetch\":" ++ decimal fetch ++ codes ",\"query\":" ++ quoted query ++ codes ",\"operationName\":null,\"variables\":{}}\n"
 
-abbrev pub refused_line : ℕ → List ℕ → List ℕ
-refused_line line cause = codes "{\"out\":\"refused\",\"line\":" ++ decimal line ++ codes ",\"code\":" ++ cause ++ codes "}\n"
+-- the place of a fault in a query's text
+abbrev pub place_text : ℕ → ℕ → List ℕ
+place_text row column = codes "\"E6\",\"row\":" ++ decimal row ++ codes ",\"column\":" ++ decimal column
 
--- the line isn't JSON
-abbrev pub not_json : List ℕ
-not_json = codes "\"E2\""
+-- the code of a refusal, and the members behind it
+abbrev pub refusal_text : Refusal → List ℕ
+refusal_text refusal.E1 = codes "\"E1\""
+refusal_text refusal.E2 = codes "\"E2\""
+refusal_text (refusal.E3 member) = codes "\"E3\",\"member\":" ++ quoted member
+refusal_text refusal.E4 = codes "\"E4\""
+refusal_text refusal.E5 = codes "\"E5\""
+refusal_text (refusal.E6 row column) = place_text row column
+refusal_text refusal.E7 = codes "\"E7\""
+refusal_text (refusal.E8 rule) = codes "\"E8\",\"rule\":" ++ decimal rule
+refusal_text (refusal.E9 variable) = codes "\"E9\",\"variable\":" ++ quoted variable
+refusal_text refusal.E10 = codes "\"E10\""
+refusal_text (refusal.E11 path) = codes "\"E11\",\"path\":" ++ quoted path
+refusal_text refusal.E12 = codes "\"E12\""
+refusal_text refusal.E14 = codes "\"E14\""
+refusal_text refusal.E15 = codes "\"E15\""
+refusal_text refusal.E16 = codes "\"E16\""
+refusal_text refusal.E17 = codes "\"E17\""
 
--- the line is no frame that can be taken now
-abbrev pub not_a_frame : List ℕ
-not_a_frame = codes "\"E3\",\"member\":\"do\""
-
--- the query's brackets nest more than 64 deep
-abbrev pub nests_too_deep : List ℕ
-nests_too_deep = codes "\"E14\""
-
--- the query is no document, by the place of its fault
-abbrev pub not_a_document : ℕ → ℕ → List ℕ
-not_a_document row column = codes "\"E6\",\"row\":" ++ decimal row ++ codes ",\"column\":" ++ decimal column
-
--- the document isn't a plain query
-abbrev pub not_a_plain_query : List ℕ
-not_a_plain_query = codes "\"E3\",\"member\":\"query\""
+-- a line that changes nothing
+abbrev pub refused_line : ℕ → Refusal → List ℕ
+refused_line line refusal = codes "{\"out\":\"refused\",\"line\":" ++ decimal line ++ codes ",\"code\":" ++ refusal_text refusal ++ codes "}\n"

@@ -1,6 +1,7 @@
 -- The lines of an input, and all that is written for them.
 use Rattle.std.specs.Prelude.{ℕ, ◌+◌, ◌==◌, ◌||◌, Bool, if◌then◌else◌, List, [], ◌∷◌, ◌++◌}
 use Rattle.std.specs.List.{list_all}
+use Rattle.judged_dispatch.specs.declared.service.Service.{Service}
 use Rattle.gate_machine.specs.Machine.{GatewayState, empty_state, Step, line_taken}
 
 -- a byte before the first of these lines
@@ -26,6 +27,6 @@ abbrev pub lines_run : ℕ → GatewayState → List (List ℕ) → List ℕ
 lines_run number state [] = []
 lines_run number state (line ∷ lines) = (line_run number line state).text ++ lines_run (number + 1) (line_run number line state).state lines
 
--- what is written for an input
-abbrev pub run_text : List ℕ → List ℕ
-run_text input = lines_run 1 empty_state (lines_of input)
+-- what is written for an input, by what its documents are judged under
+abbrev pub run_text : Service → List ℕ → List ℕ
+run_text service input = lines_run 1 (empty_state service) (lines_of input)

@@ -1,10 +1,12 @@
-//! The worked examples that run the top call, as tables. No other crate tests across crates.
+//! The worked examples that run the top call, as tables.
 #![tactic(auto)]
 
 #[cfg(test)]
 mod base_types;
 #[cfg(test)]
 mod faults;
+#[cfg(test)]
+mod judging;
 #[cfg(test)]
 mod outside;
 #[cfg(test)]

@@ -33,7 +33,13 @@ pub struct Meets {
 }
 
 /// A schema that is taken.
-const SCHEMA: &[u8] = b"type Query { me: User } type User { id: ID! name: String! }";
+const SCHEMA: &[u8] =
+    b"type Query { me: User todo(id: ID!): Todo todos: [Todo!]! count(page: Page = {}): Int }
+type Mutation { setDone(id: ID!, done: Boolean!): Todo rename(id: ID!, name: String!): User }
+type Subscription { count: Int }
+type User { id: ID! name: String! nick: String first: Todo last: Todo }
+type Todo { id: ID! text: String! done: Boolean! author: User }
+input Page { size: Int = 10 order: [[String!]] = \"id\" next: Page }";
 
 /// Nothing fails; no call has the number 0.
 pub const ALL_WELL: Meets = Meets {

@@ -1,5 +1,5 @@
 //! Schemas that are refused, through the whole program: at least one for each code. The texts for each
-//! ground of a code stand in a table of `gql_schema`.
+//! ground of a code stand in a table of `schema_tests`.
 
 use crate::outside::{ALL_WELL, Meets, PLAIN, run};
 use std::test::Fail;

@@ -1,13 +1,14 @@
 -- How the run ends in the top call: at a missing file, before its input, or with a stopped line.
-use Rattle.std.proofs.Common.{◌≡◌, ℕ, ◌+◌, ◌<◌, List, [], length, take, Option, Some, refl, sym, subst, inl, inr, arith}
+use Rattle.std.proofs.Common.{◌≡◌, ℕ, ◌+◌, ◌<◌, List, length, take, Option, Some, refl, sym, subst, inl, inr, arith}
 use Rattle.std.specs.Prelude.{codes, Err}
 use Rattle.std.specs.Io.KnownBytes.{Appends}
-use Rattle.std.proofs.KnownBytes.{Appends-trans, Appends-nil, Consumes-nil}
+use Rattle.std.proofs.KnownBytes.{Appends-trans}
 use Rattle.fault_causes.specs.Causes.{Rose}
 use Rattle.gql_schema.specs.declared.error.Refusal.{Refusal}
+use Rattle.judged_dispatch.specs.declared.service.Service.{Service}
 use Rattle.gateway.specs.Words.{Names}
-use Rattle.gateway.specs.Files.{IsMissing, IsSchema, GivesSchema, IsFirstMissing, RefusesFor, StopsAtFile}
-use Rattle.gateway.specs.Lines.{whole_lines_text, first_lines_text, limited_text, full_text}
+use Rattle.gateway.specs.Files.{IsHeld, IsMissing, IsSchema, GivesSchema, GivesService, AreHeld, AreHeldAs, Serves, IsFirstMissing, RefusesFor, StopsAtFile}
+use Rattle.gateway.specs.Lines.{whole_lines_text, limited_text, full_text}
 use Rattle.gateway.specs.Stopped.{missing_line, refused_schema_line, limit_line}
 use Rattle.gateway.specs.Run.{WritesFront, Ran, RanFront}
 use Rattle.gateway.proofs.Fronts.{WritesFront-after}
@@ -38,31 +39,30 @@ module _ (files : Option (List ℕ → Option (List ℕ))) (old new : ℕ) (word
     line = line;
   })
 
-module _ {S K : Type 0} (left : S → Option (List ℕ)) (given : S → ℕ) (held : K → Option (List ℕ)) where
-  -- nothing was taken or written
-  pub RanFront-none : (limit : ℕ) (input : S) (out : K) → RanFront left given input input held out out (full_text limit)
-  RanFront-none limit input out = record {
-    taken = [];
-    took = record { read = Consumes-nil (left input); counted = omega arith };
-    written = record { front = []; rest = full_text limit []; parts = refl; written = Appends-nil (held out) };
-  }
+-- one byte past the limit the stopped line was written behind the text
+module _ {S K : Type 0} (service : Service) (left : S → Option (List ℕ)) (given : S → ℕ) (held : K → Option (List ℕ)) (limit : ℕ) (input input_new : S) (out out_new out_last : K)
+    (ran : Ran left given input input_new held out out_new (λ bytes. whole_lines_text service (take limit bytes))) where
+  pub Ran-stopped : Appends (held out_new) (held out_last) limit_line → Ran left given input input_new held out out_last (limited_text service limit)
+  Ran-stopped h = record { taken = ran.taken; took = ran.took; written = Appends-trans _ _ _ _ limit_line ran.written h }
 
-  pub Ran-none : (limit : ℕ) (input : S) (out : K) → (count : ℕ) × Ran left given input input held out out (first_lines_text limit count)
-  Ran-none limit input out = (
-    0,
-    record {
-      taken = [];
-      took = record { read = Consumes-nil (left input); counted = omega arith };
-      written = Appends-nil (held out);
-    },
-  )
+  pub RanFront-stopped : given input_new ≡ given input + (limit + 1) → WritesFront (held out_new) (held out_last) limit_line → RanFront left given input input_new held out out_last (full_text service limit)
+  RanFront-stopped past h =
+      let long : limit < length ran.taken = omega (arith, ran.took.counted) in
+      record { taken = ran.taken; took = ran.took; written = rw (full_text-past service limit ran.taken long) (WritesFront-after _ _ _ _ limit_line ran.written h) }
 
-  -- one byte past the limit the stopped line was written behind the text
-  module _ (limit : ℕ) (input input_new : S) (out out_new out_last : K) (ran : Ran left given input input_new held out out_new (λ bytes. whole_lines_text (take limit bytes))) where
-    pub Ran-stopped : Appends (held out_new) (held out_last) limit_line → Ran left given input input_new held out out_last (limited_text limit)
-    Ran-stopped h = record { taken = ran.taken; took = ran.took; written = Appends-trans _ _ _ _ limit_line ran.written h }
+-- a service has a schema
+pub schema_given : (files : Option (List ℕ → Option (List ℕ))) (name : List ℕ) (service : Service) → GivesService files name service → IsSchema files name
+schema_given files name service gives = record { schema = service.schema; given = gives.given }
 
-    pub RanFront-stopped : given input_new ≡ given input + (limit + 1) → WritesFront (held out_new) (held out_last) limit_line → RanFront left given input input_new held out out_last (full_text limit)
-    RanFront-stopped past h =
-        let long : limit < length ran.taken = omega (arith, ran.took.counted) in
-        record { taken = ran.taken; took = ran.took; written = rw (full_text-past limit ran.taken long) (WritesFront-after _ _ _ _ limit_line ran.written h) }
+-- the files give the service
+pub serves : {files : Option (List ℕ → Option (List ℕ))} {words : Option Names} {OfService : Service → Type 0} (names : Names) (service : Service)
+    → words ≡ Some names → GivesService files names.schema service → IsHeld files names.rules → OfService service → Serves files words OfService
+serves {files = files} names service given gives held ran = record {
+  service = service;
+  held = subst (λ z. AreHeldAs files z service) (sym given) (gives, held);
+  ran = ran;
+}
+
+pub held_schema : (files : Option (List ℕ → Option (List ℕ))) (words : Option Names) (names : Names) (service : Service)
+    → words ≡ Some names → GivesService files names.schema service → IsHeld files names.rules → AreHeld files words
+held_schema files words names service given gives held = subst (λ z. AreHeld files z) (sym given) (schema_given files names.schema service gives, held)

@@ -3,6 +3,7 @@ use Rattle.std.proofs.Common.{◌≡◌, ℕ, List, [], ◌∷◌, ◌++◌, ◌
 use Rattle.std.proofs.lemmas.Bool.Decides.{nat_tests}
 use Rattle.std.proofs.Math.Seq.{take-append_seam}
 use Rattle.std.specs.Prelude.{◌==◌, if◌then◌else◌, nat_le}
+use Rattle.judged_dispatch.specs.declared.service.Service.{Service}
 use Rattle.gate_machine.specs.Machine.{GatewayState, empty_state}
 use Rattle.gate_machine.specs.Runs.{grown, lines_of, lines_run, line_run, run_text}
 use Rattle.gateway.specs.Lines.{HasNoLineFeed, grown_first, whole_lines_of, whole_lines_text, first_lines_text, limited_text, full_text}
@@ -50,8 +51,8 @@ whole : (p : Progress) (bs : List ℕ) → HasNoLineFeed p.rest → IsWhole p bs
 whole p [] n = ap (lines_from p) (sym (whole_lines_of-none p.rest n)) ∙ ap (λ z. lines_from p (whole_lines_of z)) (sym (append-nil p.rest))
 whole p (b ∷ bs) n = whole_by (b == 10) p b bs refl n (whole (next_line p) bs tt) (λ e. whole (grown_by p (b ∷ [])) bs (HasNoLineFeed-push p.rest b n e))
 
-pub text_after-whole : (bs : List ℕ) → text_after start bs ≡ whole_lines_text bs
-text_after-whole bs = whole start bs tt
+pub text_after-whole : (service : Service) (bs : List ℕ) → text_after (start service) bs ≡ whole_lines_text service bs
+text_after-whole service bs = whole (start service) bs tt
 
 -- the text of all lines, a last one without its line feed too
 abbrev IsAll : Progress → List ℕ → Type 0
@@ -74,8 +75,8 @@ all : (p : Progress) (bs : List ℕ) → HasNoLineFeed p.rest → IsAll p bs
 all p [] n = last p.number p.state p.rest n ∙ ap (λ z. lines_from p (lines_of z)) (sym (append-nil p.rest))
 all p (b ∷ bs) n = all_by (b == 10) p b bs refl n (all (next_line p) bs tt) (λ e. all (grown_by p (b ∷ [])) bs (HasNoLineFeed-push p.rest b n e))
 
-pub text_after-all : (bs : List ℕ) → text_after start bs ++ (line_here (progress_after start bs)).text ≡ run_text bs
-text_after-all bs = all start bs tt
+pub text_after-all : (service : Service) (bs : List ℕ) → text_after (start service) bs ++ (line_here (progress_after (start service) bs)).text ≡ run_text service bs
+text_after-all service bs = all (start service) bs tt
 
 -- the whole lines of a front come first
 more_lines : (is_feed : Bool) (b : ℕ) (lines both : List (List ℕ)) → (more : List (List ℕ)) × (both ≡ lines ++ more)
@@ -89,24 +90,24 @@ whole_lines_of-front [] ys = (whole_lines_of ys, refl)
 whole_lines_of-front (b ∷ xs) ys = more_lines (b == 10) b (whole_lines_of xs) (whole_lines_of (xs ++ ys)) (whole_lines_of-front xs ys)
 
 -- the text of a front of the bytes within the limit is that of so many whole lines
-pub text_after-first : (limit : ℕ) (bytes run left : List ℕ) → take limit bytes ≡ run ++ left → text_after start run ≡ first_lines_text limit (length (whole_lines_of run)) bytes
-text_after-first limit bytes run left within =
+pub text_after-first : (service : Service) (limit : ℕ) (bytes run left : List ℕ) → take limit bytes ≡ run ++ left → text_after (start service) run ≡ first_lines_text service limit (length (whole_lines_of run)) bytes
+text_after-first service limit bytes run left within =
     let more = whole_lines_of-front run left in
     let count = length (whole_lines_of run) in
-    text_after-whole run
-    ∙ ap (lines_run 1 empty_state) (sym (take-append_seam (whole_lines_of run) more.0) ∙ ap (take count) (sym more.1) ∙ ap (λ z. take count (whole_lines_of z)) (sym within))
+    text_after-whole service run
+    ∙ ap (lines_run 1 (empty_state service)) (sym (take-append_seam (whole_lines_of run) more.0) ∙ ap (take count) (sym more.1) ∙ ap (λ z. take count (whole_lines_of z)) (sym within))
 
 -- the text of what lies within the limit is a front of the full text
-full_by : (fits : Bool) (limit : ℕ) (run left : List ℕ) → take limit (run ++ left) ≡ run
-    → (rest : List ℕ) × ((if fits then run_text (run ++ left) else limited_text limit (run ++ left)) ≡ text_after start run ++ rest)
-full_by true limit run left within =
-    let last = (line_here (progress_after start (run ++ left))).text in
-    let behind = text_after (progress_after start run) left in
-    (behind ++ last, sym (text_after-all (run ++ left)) ∙ ap (λ z. z ++ last) (text_after-append start run left) ∙ append_assoc (text_after start run) behind last)
-full_by false limit run left within = (limit_line, ap (λ z. z ++ limit_line) (ap whole_lines_text within ∙ sym (text_after-whole run)))
+full_by : (fits : Bool) (service : Service) (limit : ℕ) (run left : List ℕ) → take limit (run ++ left) ≡ run
+    → (rest : List ℕ) × ((if fits then run_text service (run ++ left) else limited_text service limit (run ++ left)) ≡ text_after (start service) run ++ rest)
+full_by true service limit run left within =
+    let last = (line_here (progress_after (start service) (run ++ left))).text in
+    let behind = text_after (progress_after (start service) run) left in
+    (behind ++ last, sym (text_after-all service (run ++ left)) ∙ ap (λ z. z ++ last) (text_after-append (start service) run left) ∙ append_assoc (text_after (start service) run) behind last)
+full_by false service limit run left within = (limit_line, ap (λ z. z ++ limit_line) (ap (whole_lines_text service) within ∙ sym (text_after-whole service run)))
 
-pub full_text-front : (limit : ℕ) (run left : List ℕ) → take limit (run ++ left) ≡ run → (rest : List ℕ) × (full_text limit (run ++ left) ≡ text_after start run ++ rest)
-full_text-front limit run left within = full_by _ limit run left within
+pub full_text-front : (service : Service) (limit : ℕ) (run left : List ℕ) → take limit (run ++ left) ≡ run → (rest : List ℕ) × (full_text service limit (run ++ left) ≡ text_after (start service) run ++ rest)
+full_text-front service limit run left within = full_by _ service limit run left within
 
 -- an input within the limit has the text of all its lines, and one past it ends with the stopped line
 fits_by : {A : Type 0} (fits : Bool) (x y : A) → fits ≡ true → (if fits then x else y) ≡ x
@@ -117,8 +118,8 @@ passes_by : {A : Type 0} (fits : Bool) (x y : A) → fits ≡ false → (if fits
 passes_by true x y e = cc
 passes_by false x y e = refl
 
-pub full_text-fits : (limit : ℕ) (bytes : List ℕ) → length bytes ≤ limit → full_text limit bytes ≡ run_text bytes
-full_text-fits limit bytes h = let fits : nat_le (length bytes) limit ≡ true = grind (arith, nat_tests) in fits_by _ _ _ fits
+pub full_text-fits : (service : Service) (limit : ℕ) (bytes : List ℕ) → length bytes ≤ limit → full_text service limit bytes ≡ run_text service bytes
+full_text-fits service limit bytes h = let fits : nat_le (length bytes) limit ≡ true = grind (arith, nat_tests) in fits_by _ _ _ fits
 
-pub full_text-past : (limit : ℕ) (bytes : List ℕ) → limit < length bytes → full_text limit bytes ≡ limited_text limit bytes
-full_text-past limit bytes h = let fits : nat_le (length bytes) limit ≡ false = grind (arith, nat_tests) in passes_by _ _ _ fits
+pub full_text-past : (service : Service) (limit : ℕ) (bytes : List ℕ) → limit < length bytes → full_text service limit bytes ≡ limited_text service limit bytes
+full_text-past service limit bytes h = let fits : nat_le (length bytes) limit ≡ false = grind (arith, nat_tests) in passes_by _ _ _ fits

@@ -4,6 +4,7 @@ use Rattle.std.proofs.lemmas.List.{take_all, take_min, take-append-drop, take-ta
 use Rattle.std.proofs.Math.Seq.{take-append_seam}
 use Rattle.std.specs.Io.KnownBytes.{Appends, Consumes, Keeps}
 use Rattle.std.proofs.KnownBytes.{Appends-trans, Consumes-trans, Consumes-kept}
+use Rattle.judged_dispatch.specs.declared.service.Service.{Service}
 use Rattle.gate_machine.specs.Runs.{run_text}
 use Rattle.gateway.specs.Lines.{whole_lines_of, whole_lines_text, first_lines_text, full_text}
 use Rattle.gateway.specs.Progress.{Progress, start, line_here, text_after, progress_after}
@@ -13,12 +14,12 @@ use Rattle.gateway.proofs.Steps.{text_after-append}
 use Rattle.gateway.proofs.Law.{text_after-whole, text_after-all, text_after-first, full_text-front, full_text-fits}
 
 -- these bytes were taken so far, and all their whole lines were run
-pub record Reading {S K : Type 0} (left : S → Option (List ℕ)) (given : S → ℕ) (held : K → Option (List ℕ)) (input0 input : S) (out0 out : K) (lines : Progress) (taken : ℕ) : Type 0 where
+pub record Reading {S K : Type 0} (service : Service) (left : S → Option (List ℕ)) (given : S → ℕ) (held : K → Option (List ℕ)) (input0 input : S) (out0 out : K) (lines : Progress) (taken : ℕ) : Type 0 where
   pub bytes : List ℕ
   pub took : Takes left given input0 input bytes
   pub count : length bytes ≡ taken
-  pub written : Appends (held out0) (held out) (text_after start bytes)
-  pub stands : lines ≡ progress_after start bytes
+  pub written : Appends (held out0) (held out) (text_after (start service) bytes)
+  pub stands : lines ≡ progress_after (start service) bytes
 
 -- bytes were taken, and these of them lie within the limit
 pub record TakesWithin {S : Type 0} (left : S → Option (List ℕ)) (given : S → ℕ) (old new : S) (limit : ℕ) (run : List ℕ) : Type 0 where
@@ -64,14 +65,14 @@ pub Takes-all : {S : Type 0} (left : S → Option (List ℕ)) (given : S → ℕ
 Takes-all left given a b limit bytes took fits = record { taken = bytes; took = took; past = []; parts = sym (append-nil bytes); within = take_all limit bytes fits }
 
 -- the text behind what was written before
-module _ (a b c : Option (List ℕ)) (bytes : List ℕ) (before : Appends a b (text_after start bytes)) where
-  pub Appends-behind : (seen : List ℕ) → Appends b c (text_after (progress_after start bytes) seen) → Appends a c (text_after start (bytes ++ seen))
-  Appends-behind seen h = rw (text_after-append start bytes seen) (Appends-trans _ _ _ _ _ before h)
+module _ (service : Service) (a b c : Option (List ℕ)) (bytes : List ℕ) (before : Appends a b (text_after (start service) bytes)) where
+  pub Appends-behind : (seen : List ℕ) → Appends b c (text_after (progress_after (start service) bytes) seen) → Appends a c (text_after (start service) (bytes ++ seen))
+  Appends-behind seen h = rw (text_after-append (start service) bytes seen) (Appends-trans _ _ _ _ _ before h)
 
-  pub WritesFront-behind : (seen : List ℕ) → WritesFront b c (text_after (progress_after start bytes) seen) → WritesFront a c (text_after start (bytes ++ seen))
-  WritesFront-behind seen h = rw (text_after-append start bytes seen) (WritesFront-after a b c _ _ before h)
+  pub WritesFront-behind : (seen : List ℕ) → WritesFront b c (text_after (progress_after (start service) bytes) seen) → WritesFront a c (text_after (start service) (bytes ++ seen))
+  WritesFront-behind seen h = rw (text_after-append (start service) bytes seen) (WritesFront-after a b c _ _ before h)
 
-  pub WroteSome-behind : (seen : List ℕ) → WroteSome b c (text_after (progress_after start bytes)) seen → WroteSome a c (text_after start) (bytes ++ seen)
+  pub WroteSome-behind : (seen : List ℕ) → WroteSome b c (text_after (progress_after (start service) bytes)) seen → WroteSome a c (text_after (start service)) (bytes ++ seen)
   WroteSome-behind seen h = record {
     run = bytes ++ h.run;
     left = h.left;
@@ -79,43 +80,43 @@ module _ (a b c : Option (List ℕ)) (bytes : List ℕ) (before : Appends a b (t
     written = Appends-behind h.run h.written;
   }
 
-  pub WroteSome-none : b ≡ c → WroteSome a c (text_after start) bytes
-  WroteSome-none same = record { run = bytes; left = []; parts = sym (append-nil bytes); written = subst (λ z. Appends a z (text_after start bytes)) same before }
+  pub WroteSome-none : b ≡ c → WroteSome a c (text_after (start service)) bytes
+  WroteSome-none same = record { run = bytes; left = []; parts = sym (append-nil bytes); written = subst (λ z. Appends a z (text_after (start service) bytes)) same before }
 
-  pub WritesFront-last : WritesFront b c (line_here (progress_after start bytes)).text → WritesFront a c (run_text bytes)
-  WritesFront-last h = rw (← text_after-all bytes) (WritesFront-after a b c _ _ before h)
+  pub WritesFront-last : WritesFront b c (line_here (progress_after (start service) bytes)).text → WritesFront a c (run_text service bytes)
+  WritesFront-last h = rw (← text_after-all service bytes) (WritesFront-after a b c _ _ before h)
 
-  pub Appends-last : Appends b c (line_here (progress_after start bytes)).text → Appends a c (run_text bytes)
-  Appends-last h = rw (← text_after-all bytes) (Appends-trans _ _ _ _ _ before h)
+  pub Appends-last : Appends b c (line_here (progress_after (start service) bytes)).text → Appends a c (run_text service bytes)
+  Appends-last h = rw (← text_after-all service bytes) (Appends-trans _ _ _ _ _ before h)
 
-pub Appends-whole : (a b : Option (List ℕ)) (bytes : List ℕ) → Appends a b (text_after start bytes) → Appends a b (whole_lines_text bytes)
-Appends-whole a b bytes h = subst (Appends a b) (text_after-whole bytes) h
+pub Appends-whole : (service : Service) (a b : Option (List ℕ)) (bytes : List ℕ) → Appends a b (text_after (start service) bytes) → Appends a b (whole_lines_text service bytes)
+Appends-whole service a b bytes h = subst (Appends a b) (text_after-whole service bytes) h
 
 -- a front of the bytes was run
-pub WroteSome-front : (a b : Option (List ℕ)) (bytes : List ℕ) → WroteSome a b (text_after start) bytes → WritesFront a b (text_after start bytes)
-WroteSome-front a b bytes h = rw (h.parts, text_after-append start h.run h.left) (WritesFront-more a b _ _ (WritesFront-all a b _ h.written))
+pub WroteSome-front : {service : Service} (a b : Option (List ℕ)) (bytes : List ℕ) → WroteSome a b (text_after (start service)) bytes → WritesFront a b (text_after (start service) bytes)
+WroteSome-front {service = service} a b bytes h = rw (h.parts, text_after-append (start service) h.run h.left) (WritesFront-more a b _ _ (WritesFront-all a b _ h.written))
 
 -- the run stops
-module _ {S K : Type 0} (left : S → Option (List ℕ)) (given : S → ℕ) (held : K → Option (List ℕ)) (input input_new : S) (out out_new : K) (limit : ℕ) where
+module _ {S K : Type 0} (service : Service) (left : S → Option (List ℕ)) (given : S → ℕ) (held : K → Option (List ℕ)) (input input_new : S) (out out_new : K) (limit : ℕ) where
   -- with the last line
-  pub RanFront-last : (bytes : List ℕ) → Takes left given input input_new bytes → length bytes ≤ limit → WritesFront (held out) (held out_new) (run_text bytes) → RanFront left given input input_new held out out_new (full_text limit)
-  RanFront-last bytes took fits h = record { taken = bytes; took = took; written = rw (full_text-fits limit bytes fits) h }
+  pub RanFront-last : (bytes : List ℕ) → Takes left given input input_new bytes → length bytes ≤ limit → WritesFront (held out) (held out_new) (run_text service bytes) → RanFront left given input input_new held out out_new (full_text service limit)
+  RanFront-last bytes took fits h = record { taken = bytes; took = took; written = rw (full_text-fits service limit bytes fits) h }
 
   -- before it, where these bytes lie within the limit
   module _ (run : List ℕ) (t : TakesWithin left given input input_new limit run) where
-    pub RanFront-within : WritesFront (held out) (held out_new) (text_after start run) → RanFront left given input input_new held out out_new (full_text limit)
+    pub RanFront-within : WritesFront (held out) (held out_new) (text_after (start service) run) → RanFront left given input input_new held out out_new (full_text service limit)
     RanFront-within h =
-        let front = full_text-front limit run t.past (ap (take limit) (sym t.parts) ∙ t.within) in record {
+        let front = full_text-front service limit run t.past (ap (take limit) (sym t.parts) ∙ t.within) in record {
           taken = t.taken;
           took = t.took;
           written = rw (t.parts, front.1) (WritesFront-more _ _ _ _ h);
         }
 
-    pub Ran-first : WroteSome (held out) (held out_new) (text_after start) run → (count : ℕ) × Ran left given input input_new held out out_new (first_lines_text limit count)
+    pub Ran-first : WroteSome (held out) (held out_new) (text_after (start service)) run → (count : ℕ) × Ran left given input input_new held out out_new (first_lines_text service limit count)
     Ran-first h = (
       length (whole_lines_of h.run),
-      record { taken = t.taken; took = t.took; written = rw (← text_after-first limit t.taken h.run h.left (t.within ∙ h.parts)) h.written },
+      record { taken = t.taken; took = t.took; written = rw (← text_after-first service limit t.taken h.run h.left (t.within ∙ h.parts)) h.written },
     )
 
-    pub Ran-within : Appends (held out) (held out_new) (text_after start run) → Ran left given input input_new held out out_new (λ bytes. whole_lines_text (take limit bytes))
-    Ran-within h = record { taken = t.taken; took = t.took; written = rw t.within (Appends-whole _ _ run h) }
+    pub Ran-within : Appends (held out) (held out_new) (text_after (start service) run) → Ran left given input input_new held out out_new (λ bytes. whole_lines_text service (take limit bytes))
+    Ran-within h = record { taken = t.taken; took = t.took; written = rw t.within (Appends-whole service _ _ run h) }

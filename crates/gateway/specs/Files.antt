@@ -4,6 +4,8 @@ use Rattle.fault_causes.specs.Causes.{Rose}
 use Rattle.schema_model.specs.declared.schema.Schema.{Schema}
 use Rattle.gql_schema.specs.declared.error.Refusal.{Refusal}
 use Rattle.gql_schema.specs.Texts.{schema_in}
+use Rattle.execution_model.specs.Defaults.{AreDefaults}
+use Rattle.judged_dispatch.specs.declared.service.Service.{Service}
 use Rattle.gateway.specs.Words.{Names}
 use Rattle.gateway.specs.Stopped.{missing_line, refused_schema_line}
 
@@ -32,6 +34,22 @@ pub record GivesSchema (files : Option (List ℕ → Option (List ℕ))) (name :
 pub record IsSchema (files : Option (List ℕ → Option (List ℕ))) (name : List ℕ) : Type 0 where
   pub schema : Schema
   pub given : GivesSchema files name (Ok schema)
+
+-- the bytes under the name give the schema of this service, whose defaults have these values
+pub record GivesService (files : Option (List ℕ → Option (List ℕ))) (name : List ℕ) (service : Service) : Type 0 where
+  pub given : GivesSchema files name (Ok service.schema)
+  pub defaults : AreDefaults service.schema service.defaults
+
+-- there are names, and it holds both, the first of which gives this service
+abbrev pub AreHeldAs : Option (List ℕ → Option (List ℕ)) → Option Names → Service → Type 0
+AreHeldAs files None service = ⊥
+AreHeldAs files (Some names) service = GivesService files names.schema service × IsHeld files names.rules
+
+-- The files give a service, and this holds of it.
+pub record Serves (files : Option (List ℕ → Option (List ℕ))) (names : Option Names) (OfService : Service → Type 0) : Type 0 where
+  pub service : Service
+  pub held : AreHeldAs files names service
+  pub ran : OfService service
 
 -- there are names, and it holds both, the first of which gives a schema
 abbrev pub AreHeld : Option (List ℕ → Option (List ℕ)) → Option Names → Type 0

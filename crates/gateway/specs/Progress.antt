@@ -1,5 +1,6 @@
 -- Where a run stands among the bytes of its input, and what it writes as they come.
 use Rattle.std.specs.Prelude.{ℕ, ◌+◌, ◌==◌, if◌then◌else◌, List, [], ◌∷◌, ◌++◌}
+use Rattle.judged_dispatch.specs.declared.service.Service.{Service}
 use Rattle.gate_machine.specs.Machine.{GatewayState, empty_state, Step}
 use Rattle.gate_machine.specs.Runs.{line_run}
 
@@ -10,8 +11,8 @@ pub record Progress : Type 0 where
   pub state : GatewayState
 
 -- before the first byte
-abbrev pub start : Progress
-start = record { number = 1; rest = []; state = empty_state }
+abbrev pub start : Service → Progress
+start service = record { number = 1; rest = []; state = empty_state service }
 
 -- more bytes of the line
 abbrev pub grown_by : Progress → List ℕ → Progress

@@ -1,14 +1,13 @@
 //! The files that the words name.
 
-ghost use Rattle.std.specs.Prelude.{◌≡◌, ◌≤◌, ℕ, OnOk, IsErrOf, Ok, Err};
+ghost use Rattle.std.specs.Prelude.{◌≡◌, ◌≤◌, ℕ, IfOk, OnOk, IsErrOf, Err};
 ghost use Rattle.fault_causes.specs.Causes.{Rose};
-ghost use Rattle.schema_model.specs.declared.schema.Schema.{Schema};
-ghost use Rattle.gql_schema.specs.Texts.{schema_in};
-ghost use Rattle.gateway.specs.Files.{IsHeld, IsMissing, IsSchema, GivesSchema};
+ghost use Rattle.gateway.specs.Files.{IsHeld, IsMissing, IsSchema, GivesSchema, GivesService};
 
+use crate::schema::service_of;
 use crate::words::Names;
 use gate_outside::{Shelf, ShelfError};
-use gql_schema::{SchemaError, read_schema};
+use judged_dispatch::Service;
 use std::alloc::Global;
 use text_types::Text;
 
@@ -27,14 +26,16 @@ pub(crate) enum FileStop {
     Memory,
 }
 
-/// Reads the schema, and then asks for the rules, of which only that they are there counts as yet.
+/// Reads the schema, and then asks for the rules, of which only that they are there counts as yet. Gives
+/// the service of the schema.
+#[tactic(auto, using(crate::proofs::Ends::schema_given))]
 pub(crate) fn read_files<F: Shelf>(
     alloc: Global,
     names: &Names<'_>,
     files: &mut F,
-) -> Result<(), FileStop>
-    ensures held { OnOk result
-        (IsSchema (F.holds files.old) names.now.schema.now × IsHeld (F.holds files.old) names.now.rules.now) }
+) -> Result<Service, FileStop>
+    ensures service { IfOk result (GivesService (F.holds files.old) names.now.schema.now) }
+    ensures rules { OnOk result (IsHeld (F.holds files.old) names.now.rules.now) }
     ensures no_schema { IsErrOf result FileStop.NoSchema →
         Rose (F.missing files.old) (F.missing files.new)
         × IsMissing (F.holds files.old) names.now.schema.now }
@@ -47,15 +48,18 @@ pub(crate) fn read_files<F: Shelf>(
     ensures failed { IsErrOf result FileStop.Shelf → Rose (F.faults files.old) (F.faults files.new) }
     ensures kept { F.holds files.new ≡ F.holds files.old }
 {
-    match read_schema_file(alloc, names.schema, files) {
-        Ok(()) => find_rules(alloc, names.rules, files),
-        Err(stop) => Err(stop),
-    }
+    let service = read_schema_file(alloc, names.schema, files)?;
+    find_rules(alloc, names.rules, files)?;
+    Ok(service)
 }
 
-/// Reads the schema, which isn't kept as yet.
-fn read_schema_file<F: Shelf>(alloc: Global, name: &Text, files: &mut F) -> Result<(), FileStop>
-    ensures held { OnOk result (IsSchema (F.holds files.old) name.now) }
+/// The service of the schema that a file holds.
+fn read_schema_file<F: Shelf>(
+    alloc: Global,
+    name: &Text,
+    files: &mut F,
+) -> Result<Service, FileStop>
+    ensures held { IfOk result (GivesService (F.holds files.old) name.now) }
     ensures missing { IsErrOf result FileStop.NoSchema →
         Rose (F.missing files.old) (F.missing files.new) × IsMissing (F.holds files.old) name.now }
     ensures refused { (code line : ℕ) → IsErrOf result (FileStop.BadSchema code line) →
@@ -67,26 +71,10 @@ fn read_schema_file<F: Shelf>(alloc: Global, name: &Text, files: &mut F) -> Resu
     ensures kept { F.holds files.new ≡ F.holds files.old }
 {
     match files.get(alloc, name) {
-        Ok(text) => check_schema(alloc, text.as_slice()),
+        Ok(text) => service_of(alloc, text.as_slice()),
         Err(ShelfError::Missing) => Err(FileStop::NoSchema),
         Err(ShelfError::Failed) => Err(FileStop::Shelf),
         Err(ShelfError::Memory) => Err(FileStop::Memory),
-    }
-}
-
-/// Whether a text gives a schema.
-fn check_schema(alloc: Global, text: &[u8]) -> Result<(), FileStop>
-    ensures ok { OnOk result ((schema : Schema) × (schema_in text.now ≡ Ok schema)) }
-    ensures refused { (code line : ℕ) → IsErrOf result (FileStop.BadSchema code line) →
-        schema_in text.now ≡ Err (record { code = code; line = line }) }
-    ensures missing { IsErrOf result FileStop.NoSchema → ⊥ }
-    ensures rules { IsErrOf result FileStop.NoRules → ⊥ }
-    ensures failed { IsErrOf result FileStop.Shelf → ⊥ }
-{
-    match read_schema(alloc, text) {
-        Ok(_) => Ok(()),
-        Err(SchemaError::Refused { code, line }) => Err(FileStop::BadSchema { code, line }),
-        Err(SchemaError::Memory) => Err(FileStop::Memory),
     }
 }
 

@@ -11,6 +11,7 @@ use crate::split::{is_blank, split_line};
 use crate::stop::LineStop;
 use exchange_line::Gate;
 use gate_outside::{Sink, write_all};
+use judged_dispatch::Service;
 use std::alloc::Global;
 use std::marker::Model;
 use text_types::Bytes;
@@ -38,11 +39,11 @@ impl Model for Lines {
 }
 
 impl Lines {
-    pub(crate) fn new(alloc: Global) -> Lines
-        ensures { result ≡ start }
+    pub(crate) fn new(alloc: Global, service: Service) -> Lines
+        ensures { result ≡ start service }
     {
         Lines {
-            gate: Gate::new(alloc),
+            gate: Gate::new(alloc, service),
             number: 1,
             rest: Bytes::new(alloc),
             text: Bytes::new(alloc),

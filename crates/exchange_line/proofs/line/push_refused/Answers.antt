@@ -5,5 +5,5 @@ use Rattle.exchange_line.proofs.line.push_refused.Goals as goal
 pub returns : goal.returns
 returns c =
     on_ok_weaker c.append-3.result
-    (λ w. w ∙ rw (c.in_ok-push_cause.ensures, c.in_ok-append-2.ensures.ok, c.in_ok-push_number.ensures, c.in_ok-append.ensures.ok) (simp append_assoc))
+    (λ w. w ∙ rw (c.in_ok-push_refusal.ensures, c.in_ok-append-2.ensures.ok, c.in_ok-push_number.ensures, c.in_ok-append.ensures.ok) (simp append_assoc))
     c.append-3.ensures.ok

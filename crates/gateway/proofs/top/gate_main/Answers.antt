@@ -1,14 +1,11 @@
 use Rattle.std.proofs.Common.{refl, ap, inl, inr, Err}
-use Rattle.gateway.proofs.Ends.{no_schema, bad_schema, no_rules, RanFront-none, Ran-none, Ran-stopped, RanFront-stopped}
+use Rattle.gateway.proofs.Ends.{no_schema, bad_schema, no_rules, serves, Ran-stopped, RanFront-stopped}
 use Rattle.gateway.proofs.top.gate_main.Goals as goal
-
-pub returns-in_default-clause-front : goal.returns-in_default-clause-front
-returns-in_default-clause-front g c = inl (RanFront-none _ _ g.O.Sink.held _ _ _)
 
 pub returns-in-Err-NoSchema-clause-front : goal.returns-in-Err-NoSchema-clause-front
 returns-in-Err-NoSchema-clause-front g c =
     let said = c.in-Err-NoSchema.ensures.no_schema (ap Err c.in-Err-NoSchema.field-0-is) in
-    inr (no_schema _ _ _ _ _ _ c.in-Some.ensures.names said c.write_stopped.ensures.front, refl)
+    inr (inr (no_schema _ _ _ _ _ _ c.in-Some.ensures.names said c.write_stopped.ensures.front, refl))
 
 pub returns-in-Err-NoSchema-clause-stopped : goal.returns-in-Err-NoSchema-clause-stopped
 returns-in-Err-NoSchema-clause-stopped g c e =
@@ -18,26 +15,17 @@ returns-in-Err-NoSchema-clause-stopped g c e =
 pub returns-in-Err-NoRules-clause-front : goal.returns-in-Err-NoRules-clause-front
 returns-in-Err-NoRules-clause-front g c =
     let said = c.in-Err-NoRules.ensures.no_rules (ap Err c.in-Err-NoRules.field-0-is) in
-    inr (no_rules _ _ _ _ _ _ c.in-Some.ensures.names said c.write_stopped-in-Err-NoRules.ensures.front, refl)
+    inr (inr (no_rules _ _ _ _ _ _ c.in-Some.ensures.names said c.write_stopped-in-Err-NoRules.ensures.front, refl))
 
 pub returns-in-Err-NoRules-clause-stopped : goal.returns-in-Err-NoRules-clause-stopped
 returns-in-Err-NoRules-clause-stopped g c e =
     let said = c.in-Err-NoRules.ensures.no_rules (ap Err c.in-Err-NoRules.field-0-is) in
     no_rules _ _ _ _ _ _ c.in-Some.ensures.names said (c.write_stopped-in-Err-NoRules.ensures.whole e)
 
-pub returns-in-Err-Shelf-clause-front : goal.returns-in-Err-Shelf-clause-front
-returns-in-Err-Shelf-clause-front g c = inl (RanFront-none _ _ g.O.Sink.held _ _ _)
-
-pub returns-in-Err-Memory-clause-front : goal.returns-in-Err-Memory-clause-front
-returns-in-Err-Memory-clause-front g c = inl (RanFront-none _ _ g.O.Sink.held _ _ _)
-
-pub returns-in-Err-Memory-clause-memory : goal.returns-in-Err-Memory-clause-memory
-returns-in-Err-Memory-clause-memory g c e = Ran-none _ _ g.O.Sink.held _ _ _
-
 pub returns-in-Err-BadSchema-clause-front : goal.returns-in-Err-BadSchema-clause-front
 returns-in-Err-BadSchema-clause-front g c =
     let said = c.in-Err-BadSchema.ensures.bad_schema _ _ (ap Err c.in-Err-BadSchema.field-0-is) in
-    inr (bad_schema _ _ _ _ _ _ c.in-Some.ensures.names _ said (rw (c.in-Err-BadSchema.code-is, c.in-Err-BadSchema.line-is) at c.stop_at_schema.ensures.front), refl)
+    inr (inr (bad_schema _ _ _ _ _ _ c.in-Some.ensures.names _ said (rw (c.in-Err-BadSchema.code-is, c.in-Err-BadSchema.line-is) at c.stop_at_schema.ensures.front), refl))
 
 pub returns-in-Err-BadSchema-clause-stopped : goal.returns-in-Err-BadSchema-clause-stopped
 returns-in-Err-BadSchema-clause-stopped g c e =
@@ -45,14 +33,16 @@ returns-in-Err-BadSchema-clause-stopped g c e =
     bad_schema _ _ _ _ _ _ c.in-Some.ensures.names _ said (rw (c.in-Err-BadSchema.code-is, c.in-Err-BadSchema.line-is) at (c.stop_at_schema.ensures.whole e))
 
 pub returns-in-Err-BadSchema-clause-memory : goal.returns-in-Err-BadSchema-clause-memory
-returns-in-Err-BadSchema-clause-memory g c e = rw (c.stop_at_schema.ensures.memory e) (Ran-none _ _ g.O.Sink.held _ _ _)
+returns-in-Err-BadSchema-clause-memory g c e = inl (refl, c.stop_at_schema.ensures.memory e)
 
 pub returns-in-Err-Limit-clause-front : goal.returns-in-Err-Limit-clause-front
 returns-in-Err-Limit-clause-front g c =
     let said = c.in-Err-Limit.ensures.past_limit (ap Err c.in-Err-Limit.field-0-is) in
-    inl (rw (← c.in-Some.ensures.limit) (RanFront-stopped _ _ g.O.Sink.held _ _ _ _ _ _ said.1 said.0 c.write_stopped-in-Err-Limit.ensures.front))
+    inr (inl (serves _ _ c.in-Some.ensures.names c.in-Ok.ensures.service c.in-Ok.ensures.rules
+    (rw (← c.in-Some.ensures.limit) (RanFront-stopped _ _ _ g.O.Sink.held _ _ _ _ _ _ said.1 said.0 c.write_stopped-in-Err-Limit.ensures.front))))
 
 pub returns-in-Err-Limit-clause-past_limit : goal.returns-in-Err-Limit-clause-past_limit
 returns-in-Err-Limit-clause-past_limit g c e =
     let said = c.in-Err-Limit.ensures.past_limit (ap Err c.in-Err-Limit.field-0-is) in
-    rw (← c.in-Some.ensures.limit) (Ran-stopped _ _ g.O.Sink.held _ _ _ _ _ _ said.1 (c.write_stopped-in-Err-Limit.ensures.whole e))
+    serves _ _ c.in-Some.ensures.names c.in-Ok.ensures.service c.in-Ok.ensures.rules
+    (rw (← c.in-Some.ensures.limit) (Ran-stopped _ _ _ g.O.Sink.held _ _ _ _ _ _ said.1 (c.write_stopped-in-Err-Limit.ensures.whole e)))

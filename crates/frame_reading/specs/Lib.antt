@@ -1,0 +1,4 @@
+pub mod Values
+pub mod Members
+pub mod Frames
+pub mod Errors

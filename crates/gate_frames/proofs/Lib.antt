@@ -1,0 +1,3 @@
+pub mod DepthLaws
+pub mod FollowUpLaws
+pub mod ValueLaws

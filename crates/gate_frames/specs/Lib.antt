@@ -1,0 +1,5 @@
+pub mod Values
+pub mod Members
+pub mod Dispatches
+pub mod Frames
+pub mod Unread

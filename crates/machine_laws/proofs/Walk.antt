@@ -1,0 +1,284 @@
+-- What every change of tickets, fetches and mutations keeps, every command keeps.
+use Rattle.std.proofs.Common.{◌≡◌, ℕ, suc, ◌+◌, ◌-◌, ◌==◌, ◌&&◌, Bool, true, false, not, nat_le, if◌then◌else◌, List, [], ◌∷◌, ◌++◌, map, filter, find, length, set, is_some, Option, Some, None, Result, Ok, Err, refl}
+use Rattle.std.specs.Option.{option_map_or}
+use Rattle.std.specs.List.{list_any}
+use Rattle.gql_model.specs.declared.executable.OperationKind.{OperationKind}
+use Rattle.gql_model.specs.declared.executable.OperationKind.TheVariants as kind
+use Rattle.gql_value.specs.declared.value.Value.{Value}
+use Rattle.gql_value.specs.declared.outcome.Fault.{Fault}
+use Rattle.gql_value.specs.declared.outcome.Fault.TheVariants.{F1, F2, F3, F4, F5, F6, F7, F8}
+use Rattle.gql_value.specs.declared.outcome.Outcome.{Outcome}
+use Rattle.gql_value.specs.declared.outcome.Outcome.TheVariants as outcome
+use Rattle.cache_model.specs.declared.write.Write.{Write}
+use Rattle.cache_model.specs.declared.kind.Kind.{Kind}
+use Rattle.cache_model.specs.declared.kind.Kind.TheVariants.{Empty, Optimistic, Final}
+use Rattle.cache_model.specs.History.{History, Content, no_content, with_mark, content_of, filled, finished}
+use Rattle.send_rules.specs.declared.policy.Policy.{Policy}
+use Rattle.queue_model.specs.declared.row.Row.{Row}
+use Rattle.machine_model.specs.declared.command.Command.{Command, out-Command}
+use Rattle.machine_model.specs.declared.command.Command.TheOpen.{Command-F, Dispatch-F}
+use Rattle.machine_model.specs.declared.command.Dispatch.{Dispatch, out-Dispatch}
+use Rattle.machine_model.specs.declared.output.Ending.{Ending}
+use Rattle.machine_model.specs.declared.output.Ending.TheVariants.{Outside, QueueFull}
+use Rattle.machine_model.specs.declared.output.Refusal.{Refusal}
+use Rattle.machine_model.specs.declared.output.Refusal.TheVariants as refusal
+use Rattle.machine_model.specs.Operations.{Meaning, Identity}
+use Rattle.machine_model.specs.State.{GatewayState, LiveOperation, Listening, query, mutation, OpenFetch, PendingMutation, Job, is_named, is_live, is_for_key, is_sent, next_ticket}
+use Rattle.machine_model.specs.Steps.{Step, Change, Sequel, stops, issues, reevaluates, unmoved, refused, followed_by}
+use Rattle.machine_model.specs.Telling.{Turn}
+use Rattle.machine_model.specs.Reevaluation.{reevaluated}
+use Rattle.machine_model.specs.Issue.{is_network_only, with_ticket, may_be_sent, query_sent, issued_for, issued_over, sent}
+use Rattle.machine_model.specs.Sequels.{followed, concluded}
+use Rattle.machine_model.specs.Queries.{Sender, live_as, with_live, awaiting, query_read, query_added, key_of, with_identity}
+use Rattle.machine_model.specs.Mutations.{guessed, with_mutation, begun_and_sent}
+use Rattle.machine_model.specs.Teardowns.{has_listener, closed, forgotten, nothing_forgotten, key_left, left_behind, torn_down, torn_where_live, teardown, all_torn_down, without_named}
+use Rattle.machine_model.specs.Responses.{query_written, query_answered, without_mutation, row_done, over, mutation_failed, mutation_written, has_row_number, is_full, in_row, mutation_queued, mutation_put, mutation_unreached, mutation_ended, mutation_answered, pending_of, fetch_answered, answered_where_open, response}
+use Rattle.machine_model.specs.Rows.{is_in_row, sent_again, rows_sent_again, Offered, all_offered}
+use Rattle.machine_model.specs.Commands.{most_live, refused_frame, taken, taken_or_refused, sender_of, dispatched, step_of, command_step}
+
+-- what is said of the tickets, the open fetches, the mutations and the next number of a fetch
+abbrev pub Saying : Type 0 → Type 1
+Saying O = History → List (OpenFetch O) → List (PendingMutation O) → ℕ → Type 0
+
+-- it is kept where a ticket gets another content; where a query or a mutation is sent under the next ticket, or a mutation
+-- again under its own; and where fetches or mutations are over, or a mutation gets a row
+pub record Keeps {O : Type 0} (P : Saying O) : Type 0 where
+  pub filled : (h : History) (f : List (OpenFetch O)) (m : List (PendingMutation O)) (n i : ℕ) (c : Content) → P h f m n → P (set h i c) f m n
+  pub query : (h : History) (f : List (OpenFetch O)) (m : List (PendingMutation O)) (n key : ℕ) (operation : O) → P h f m n
+      → P (h ++ no_content ∷ []) (f ++ record { number = n; ticket = suc (length h); key = Some key; operation = operation } ∷ []) m (n + 1)
+  pub mutation : (h : History) (f : List (OpenFetch O)) (m : List (PendingMutation O)) (n : ℕ) (row : Option ℕ) (operation : O) → P h f m n
+      → P (h ++ no_content ∷ []) (f ++ record { number = n; ticket = suc (length h); key = None; operation = operation } ∷ []) (m ++ record { ticket = suc (length h); row = row; operation = operation } ∷ []) (n + 1)
+  pub again : (h : History) (f : List (OpenFetch O)) (m : List (PendingMutation O)) (n : ℕ) (test : PendingMutation O → Bool) (pending : PendingMutation O) → find test m ≡ Some pending
+      → list_any (λ fetch. fetch.ticket == pending.ticket) f ≡ false → P h f m n
+      → P h (f ++ record { number = n; ticket = pending.ticket; key = None; operation = pending.operation } ∷ []) m (n + 1)
+  pub fetches : (h : History) (f : List (OpenFetch O)) (m : List (PendingMutation O)) (n : ℕ) (test : OpenFetch O → Bool) → P h f m n → P h (filter test f) m n
+  pub mutations : (h : History) (f : List (OpenFetch O)) (m : List (PendingMutation O)) (n : ℕ) (test : PendingMutation O → Bool) → P h f m n → P h f (filter test m) n
+  pub rowed : (h : History) (f : List (OpenFetch O)) (m : List (PendingMutation O)) (n ticket row : ℕ) → P h f m n → P h f (map (in_row ticket row) m) n
+
+abbrev pub KeptIn : {O : Type 0} → Saying O → GatewayState O → Type 0
+KeptIn P s = P s.history s.fetches s.mutations s.next_fetch
+
+-- it is kept where a query is sent
+abbrev pub KeepsQuery : {O : Type 0} → Saying O → Type 0
+KeepsQuery {O} P = (h : History) (f : List (OpenFetch O)) (m : List (PendingMutation O)) (n key : ℕ) (operation : O) → P h f m n
+    → P (h ++ no_content ∷ []) (f ++ record { number = n; ticket = suc (length h); key = Some key; operation = operation } ∷ []) m (n + 1)
+
+-- ---- what follows a change sends queries alone
+
+module _ {O : Type 0} (P : Saying O) (k : KeepsQuery P) (m : Meaning O) where
+  kept_sent : (b : Bool) (x y : Step O) → KeptIn P x.state → KeptIn P y.state → KeptIn P (if b then x else y).state
+  kept_sent true x y a b = a
+  kept_sent false x y a b = b
+
+  kept_issued_for : (listens : Listening O) (s : GatewayState O) → KeptIn P s → KeptIn P (issued_for m listens s).state
+  kept_issued_for (query l) s a = kept_sent (may_be_sent m s l) (query_sent m l s) (unmoved s) (k s.history s.fetches s.mutations s.next_fetch l.key l.operation a) a
+  kept_issued_for (mutation ticket) s a = a
+
+  kept_issued_over : (lives : List (LiveOperation O)) (s : GatewayState O) → KeptIn P s → KeptIn P (issued_over m lives s).state
+  kept_issued_over [] s a = a
+  kept_issued_over (live ∷ lives) s a = kept_issued_over lives (issued_for m live.listens s).state (kept_issued_for live.listens s a)
+
+  kept_followed : (sequel : Sequel) (s : GatewayState O) → KeptIn P s → KeptIn P (followed m sequel s).state
+  kept_followed stops s a = a
+  kept_followed issues s a = kept_issued_over s.live s a
+  kept_followed (reevaluates ticket answer) s a =
+      let after = (reevaluated m answer s).state in
+      kept_issued_over after.live after a
+
+  pub kept_by_what_follows : (change : Change O) → KeptIn P change.state → KeptIn P (concluded m change).state
+  kept_by_what_follows change a = kept_followed change.sequel change.state a
+
+module _ {O : Type 0} (P : Saying O) (k : Keeps P) (m : Meaning O) where
+  abbrev Kept : GatewayState O → Type 0
+  Kept s = P s.history s.fetches s.mutations s.next_fetch
+
+  kept_if : (b : Bool) (x y : Step O) → Kept x.state → Kept y.state → Kept (if b then x else y).state
+  kept_if true x y a b = a
+  kept_if false x y a b = b
+
+  change_if : (b : Bool) (x y : Change O) → Kept x.state → Kept y.state → Kept (if b then x else y).state
+  change_if true x y a b = a
+  change_if false x y a b = b
+
+  -- a ticket gets its last content
+  ended : (h : History) (f : List (OpenFetch O)) (ms : List (PendingMutation O)) (n ticket : ℕ) (writes : List Write) (kind : Kind) → P h f ms n → P (finished (filled h ticket writes kind) ticket) f ms n
+  ended h f ms n ticket writes kind a =
+      k.filled (filled h ticket writes kind) f ms n (ticket - 1) (with_mark (content_of (filled h ticket writes kind) ticket))
+      (k.filled h f ms n (ticket - 1) (record { kind = kind; finished = false; writes = writes }) a)
+
+  kept_concluded : (change : Change O) → Kept change.state → Kept (concluded m change).state
+  kept_concluded change a = kept_by_what_follows P k.query m change a
+
+  -- ---- dispatches
+
+  kept_query_added : (sender : Sender) (operation : O) (key : ℕ) (policy : Policy) (s : GatewayState O) → Kept s → Kept (query_added m sender operation key policy s).state
+  kept_query_added sender operation key policy s a =
+      kept_if (is_network_only policy) (unmoved (with_live (live_as sender (query (awaiting operation key policy))) s)) (query_read m sender operation key policy s) a a
+
+  kept_begun : (operation : O) (row : Option ℕ) (s : GatewayState O) (guess : Option (List Write)) → Kept s
+      → Kept (sent m (next_ticket s) None operation (with_mutation (record { ticket = next_ticket s; row = row; operation = operation }) (guessed (next_ticket s) guess (with_ticket s)))).state
+  kept_begun operation row s None a = k.mutation s.history s.fetches s.mutations s.next_fetch row operation a
+  kept_begun operation row s (Some writes) a =
+      k.filled (s.history ++ no_content ∷ [])
+      (s.fetches ++ record { number = s.next_fetch; ticket = next_ticket s; key = None; operation = operation } ∷ [])
+      (s.mutations ++ record { ticket = next_ticket s; row = row; operation = operation } ∷ [])
+      (s.next_fetch + 1) (next_ticket s - 1) (record { kind = Optimistic; finished = false; writes = writes })
+      (k.mutation s.history s.fetches s.mutations s.next_fetch row operation a)
+
+  kept_taken : (sender : Sender) (policy : Policy) (operation : O) (s : GatewayState O) (given : OperationKind) → Kept s → Kept (taken m sender policy operation s given).state
+  kept_taken sender policy operation s kind.Query a =
+      let identity = m.identity operation in
+      kept_query_added sender operation (key_of s.identities identity) policy (record s { identities = with_identity s.identities identity }) a
+  kept_taken sender policy operation s kind.Mutation a = kept_begun operation None (with_live (live_as sender (mutation (next_ticket s))) s) (m.guess operation) a
+  kept_taken sender policy operation s kind.Subscription a = kept_begun operation None (with_live (live_as sender (mutation (next_ticket s))) s) (m.guess operation) a
+
+  kept_judged : (sender : Sender) (line : ℕ) (policy : Policy) (s : GatewayState O) (judged : Result O Refusal) → Kept s → Kept (taken_or_refused m sender line policy s judged).state
+  kept_judged sender line policy s (Err r) a = a
+  kept_judged sender line policy s (Ok operation) a = kept_taken sender policy operation s (m.kind operation) a
+
+  kept_dispatched : (dispatch : Dispatch) (parts : Dispatch-F Command Dispatch) (s : GatewayState O) → Kept s → Kept (dispatched m dispatch parts s).state
+  kept_dispatched dispatch parts s a =
+      let late = taken_or_refused m (sender_of parts) parts.line parts.policy s (m.judged dispatch) in
+      let many = refused_frame parts.peer parts.line refusal.E12 s in
+      change_if (is_live s parts.peer parts.id) (refused_frame parts.peer parts.line refusal.E4 s) (if nat_le most_live (length s.live) then many else late) a
+      (change_if (nat_le most_live (length s.live)) many late a (kept_judged (sender_of parts) parts.line parts.policy s (m.judged dispatch) a))
+
+  -- ---- teardowns
+
+  kept_closed : (number : ℕ) (s : GatewayState O) → Kept s → Kept (closed number s)
+  kept_closed number s a = k.fetches s.history s.fetches s.mutations s.next_fetch (λ (other : OpenFetch O). not (other.number == number)) a
+
+  kept_forgotten : (s : GatewayState O) (fetch : Option (OpenFetch O)) → Kept s → Kept (option_map_or (forgotten s) fetch (nothing_forgotten s)).state
+  kept_forgotten s (Some fetch) a =
+      let after = closed fetch.number s in
+      ended after.history after.fetches after.mutations after.next_fetch fetch.ticket [] Empty (kept_closed fetch.number s a)
+  kept_forgotten s None a = a
+
+  kept_left : (listens : Listening O) (s : GatewayState O) → Kept s → Kept (left_behind listens s).state
+  kept_left (query l) s a =
+      change_if (has_listener s l.key) (nothing_forgotten s) (key_left l.key s) a (kept_forgotten s (find (is_for_key l.key) s.fetches) a)
+  kept_left (mutation ticket) s a = a
+
+  kept_where_live : (peer id line : ℕ) (took_out : Bool) (s : GatewayState O) (live : Option (LiveOperation O)) → Kept s → Kept (torn_where_live peer id line took_out s live).state
+  kept_where_live peer id line took_out s (Some live) a = kept_left live.listens (without_named peer id s) a
+  kept_where_live peer id line took_out s None a = kept_if took_out (unmoved s) (refused peer line refusal.E5 s) a a
+
+  kept_all_torn : (lives : List (LiveOperation O)) (s : GatewayState O) → Kept s → Kept (all_torn_down m lives s).state
+  kept_all_torn [] s a = a
+  kept_all_torn (live ∷ lives) s a =
+      let change = torn_down live.peer live.id live.listens s in
+      kept_all_torn lives (concluded m change).state
+      (kept_concluded change (kept_left live.listens (without_named live.peer live.id s) a))
+
+  -- ---- responses
+
+  kept_query_written : (fetch : OpenFetch O) (key : ℕ) (errors : Value) (s : GatewayState O) (written : Result (List Write) (List ℕ)) → Kept s → Kept (query_written m fetch key errors s written).state
+  kept_query_written fetch key errors s (Ok writes) a = ended s.history s.fetches s.mutations s.next_fetch fetch.ticket writes Final a
+  kept_query_written fetch key errors s (Err path) a = ended s.history s.fetches s.mutations s.next_fetch fetch.ticket [] Empty a
+
+  kept_query_answered : (fetch : OpenFetch O) (key : ℕ) (s : GatewayState O) (o : Outcome) → Kept s → Kept (query_answered m fetch key s o).state
+  kept_query_answered fetch key s (outcome.Body answer errors) a = kept_query_written fetch key errors s (m.written fetch.operation answer errors) a
+  kept_query_answered fetch key s (outcome.Bad fault) a = ended s.history s.fetches s.mutations s.next_fetch fetch.ticket [] Empty a
+
+  kept_done : (row : Option ℕ) (s : GatewayState O) → Kept s → Kept (row_done row s)
+  kept_done None s a = a
+  kept_done (Some row) s a = a
+
+  kept_over : (pending : PendingMutation O) (turn : LiveOperation O → Turn O) (s : GatewayState O) → Kept s → Kept (over pending turn s).state
+  kept_over pending turn s a =
+      kept_done pending.row (without_mutation pending.ticket s)
+      (k.mutations s.history s.fetches s.mutations s.next_fetch (λ (other : PendingMutation O). not (other.ticket == pending.ticket)) a)
+
+  kept_failed : (pending : PendingMutation O) (ending : Ending) (s : GatewayState O) → Kept s → Kept (mutation_failed m pending ending s).state
+  kept_failed pending ending s a =
+      let after = finished (filled s.history pending.ticket [] Empty) pending.ticket in
+      kept_done pending.row (without_mutation pending.ticket (record s { history = after }))
+      (k.mutations after s.fetches s.mutations s.next_fetch (λ (other : PendingMutation O). not (other.ticket == pending.ticket)) (ended s.history s.fetches s.mutations s.next_fetch pending.ticket [] Empty a))
+
+  kept_written : (pending : PendingMutation O) (answer errors : Value) (s : GatewayState O) (written : Result (List Write) (List ℕ)) → Kept s → Kept (mutation_written m pending answer errors s written).state
+  kept_written pending answer errors s (Ok writes) a =
+      let all = writes ++ m.updates pending.operation answer in
+      let after = finished (filled s.history pending.ticket all Final) pending.ticket in
+      kept_done pending.row (without_mutation pending.ticket (record s { history = after }))
+      (k.mutations after s.fetches s.mutations s.next_fetch (λ (other : PendingMutation O). not (other.ticket == pending.ticket)) (ended s.history s.fetches s.mutations s.next_fetch pending.ticket all Final a))
+  kept_written pending answer errors s (Err path) a = kept_failed pending (Outside (F4 path)) s a
+
+  kept_queued : (pending : PendingMutation O) (identity : Identity) (s : GatewayState O) → Kept s → Kept (mutation_queued pending identity s).state
+  kept_queued pending identity s a = k.rowed s.history s.fetches s.mutations s.next_fetch pending.ticket (s.rows.greatest + 1) a
+
+  kept_put : (pending : PendingMutation O) (identity : Identity) (s : GatewayState O) → Kept s → Kept (mutation_put m pending identity s).state
+  kept_put pending identity s a =
+      change_if (has_row_number s.rows && is_full s.rows identity) (mutation_failed m pending QueueFull s) (mutation_queued pending identity s)
+      (kept_failed pending QueueFull s a) (kept_queued pending identity s a)
+
+  kept_unreached : (pending : PendingMutation O) (row : Option ℕ) (s : GatewayState O) → Kept s → Kept (mutation_unreached m pending row s).state
+  kept_unreached pending (Some row) s a = a
+  kept_unreached pending None s a =
+      change_if (is_some (m.guess pending.operation)) (mutation_put m pending (m.identity pending.operation) s) (mutation_failed m pending (Outside F6) s)
+      (kept_put pending (m.identity pending.operation) s a) (kept_failed pending (Outside F6) s a)
+
+  kept_ended : (pending : PendingMutation O) (s : GatewayState O) (fault : Fault) → Kept s → Kept (mutation_ended m pending s fault).state
+  kept_ended pending s F6 a = kept_unreached pending pending.row s a
+  kept_ended pending s F1 a = kept_failed pending (Outside F1) s a
+  kept_ended pending s F2 a = kept_failed pending (Outside F2) s a
+  kept_ended pending s (F3 path) a = kept_failed pending (Outside (F3 path)) s a
+  kept_ended pending s (F4 path) a = kept_failed pending (Outside (F4 path)) s a
+  kept_ended pending s (F5 status) a = kept_failed pending (Outside (F5 status)) s a
+  kept_ended pending s F7 a = kept_failed pending (Outside F7) s a
+  kept_ended pending s F8 a = kept_failed pending (Outside F8) s a
+
+  kept_mutation_answered : (pending : PendingMutation O) (s : GatewayState O) (o : Outcome) → Kept s → Kept (mutation_answered m pending s o).state
+  kept_mutation_answered pending s (outcome.Body answer errors) a = kept_written pending answer errors s (m.written pending.operation answer errors) a
+  kept_mutation_answered pending s (outcome.Bad fault) a = kept_ended pending s fault a
+
+  kept_pending : (o : Outcome) (s : GatewayState O) (pending : Option (PendingMutation O)) → Kept s → Kept (option_map_or (λ found. mutation_answered m found s o) pending (followed_by (unmoved s) stops)).state
+  kept_pending o s (Some pending) a = kept_mutation_answered pending s o a
+  kept_pending o s None a = a
+
+  kept_fetch : (fetch : OpenFetch O) (o : Outcome) (s : GatewayState O) (key : Option ℕ) → Kept s → Kept (fetch_answered m fetch o s key).state
+  kept_fetch fetch o s (Some key) a = kept_query_answered fetch key s o a
+  kept_fetch fetch o s None a = kept_pending o s (pending_of fetch.ticket s) a
+
+  kept_open : (peer line : ℕ) (o : Outcome) (s : GatewayState O) (fetch : Option (OpenFetch O)) → Kept s → Kept (answered_where_open m peer line o s fetch).state
+  kept_open peer line o s None a = a
+  kept_open peer line o s (Some fetch) a = kept_fetch fetch o (closed fetch.number s) fetch.key (kept_closed fetch.number s a)
+
+  -- ---- rows
+
+  kept_unless : (s : GatewayState O) (test : PendingMutation O → Bool) (pending : PendingMutation O) (b : Bool) → find test s.mutations ≡ Some pending → is_sent s pending.ticket ≡ b → Kept s
+      → Kept (if b then unmoved s else sent m pending.ticket None pending.operation s).state
+  kept_unless s test pending true found e a = a
+  kept_unless s test pending false found e a = k.again s.history s.fetches s.mutations s.next_fetch test pending found e a
+
+  kept_sent_again : (s : GatewayState O) (test : PendingMutation O → Bool) (pending : Option (PendingMutation O)) → find test s.mutations ≡ pending → Kept s → Kept (option_map_or (sent_again m s) pending (unmoved s)).state
+  kept_sent_again s test (Some pending) found a = kept_unless s test pending (is_sent s pending.ticket) found refl a
+  kept_sent_again s test None found a = a
+
+  kept_rows : (rows : List Row) (s : GatewayState O) → Kept s → Kept (rows_sent_again m rows s).state
+  kept_rows [] s a = a
+  kept_rows (row ∷ rows) s a =
+      let step = option_map_or (sent_again m s) (find (is_in_row row.seq) s.mutations) (unmoved s) in
+      kept_rows rows step.state (kept_sent_again s (is_in_row row.seq) (find (is_in_row row.seq) s.mutations) refl a)
+
+  -- rows that are offered at the opening
+  pub kept_by_offers : (offers : List (Offered O)) (s : GatewayState O) → Kept s → Kept (all_offered m offers s).state
+  kept_by_offers [] s a = a
+  kept_by_offers (offer ∷ offers) s a =
+      kept_by_offers offers (begun_and_sent m offer.1 (Some offer.0) s).state (kept_begun offer.1 (Some offer.0) s (m.guess offer.1) a)
+
+  -- ---- commands
+
+  kept_step : (took_out : Bool) (s : GatewayState O) (command : Command-F Command Dispatch) → Kept s → Kept (step_of m took_out s command).state
+  kept_step took_out s (Command-F.Dispatch dispatch) a =
+      kept_concluded (dispatched m dispatch (out-Dispatch dispatch) s) (kept_dispatched dispatch (out-Dispatch dispatch) s a)
+  kept_step took_out s (Command-F.Teardown peer id line) a =
+      kept_concluded (teardown peer id line took_out s) (kept_where_live peer id line took_out s (find (is_named peer id) s.live) a)
+  kept_step took_out s (Command-F.Respond peer fetch line o) a =
+      kept_concluded (response m peer fetch line o s) (kept_open peer line o s (find (λ (other : OpenFetch O). other.number == fetch) s.fetches) a)
+  kept_step took_out s Command-F.Online a = kept_rows s.rows.rows s a
+  kept_step took_out s (Command-F.Layers peer) a = a
+  kept_step took_out s (Command-F.Flat peer) a = a
+  kept_step took_out s (Command-F.Gone peer) a = kept_all_torn (filter (λ (live : LiveOperation O). live.peer == peer) s.live) s a
+
+  pub kept_by_command : (job : Job) (s : GatewayState O) → Kept s → Kept (command_step m job s).state
+  kept_by_command job s a = kept_step job.took_out s (out-Command job.command) a

@@ -1,0 +1,11 @@
+//! Further laws of the machine (`machine_model`), which the layers above cite. The functions do
+//! nothing: each has a law as its clause, and `specs/` states the laws. `O` is what a checked operation
+//! is.
+//!
+//! What every change of tickets, fetches and mutations keeps, every command keeps
+//! (`proofs/Walk.antt`): a further law of this kind needs only the changes one by one.
+#![tactic(auto)]
+
+mod laws;
+
+pub use laws::{every_run_ends, final_answers_close, tickets_in_order};
