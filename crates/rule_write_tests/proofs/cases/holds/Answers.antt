@@ -10,8 +10,8 @@ pub is_written-requires : goal.is_written-requires
 is_written-requires c = record {
   whole = subst (λ (o : Checked). IsWhole o) (sym c.in_ok-asking.ensures.operation) c.in_ok-operation.ensures;
   fronts =
-    c.in_ok-asking.ensures.fronts
-    ∙ c.as_slice.ensures
-    ∙ c.in_ok-fronts.ensures
-    ∙ sym (ap (λ (e : Execution). fronts_of e.schema e.document) c.in_ok-asking.ensures.execution);
+      c.in_ok-asking.ensures.fronts
+      ∙ c.as_slice.ensures
+      ∙ c.in_ok-fronts.ensures
+      ∙ sym (ap (λ (e : Execution). fronts_of e.schema e.document) c.in_ok-asking.ensures.execution);
 }
