@@ -1,0 +1,3 @@
+mod Dialogs
+mod Opened
+mod QueryRuns

@@ -1,0 +1,13 @@
+ghost use Rattle.machine_rows.specs.Meanings.{no_rules};
+ghost use Rattle.machine_rows.specs.Dialogs.{Dialog};
+ghost use Rattle.machine_rows.specs.Queries as run;
+
+/// The same is asked in other words while it is fetched: one fetch is sent, and its answer is told to both.
+pub fn one_query_for_two()
+    ensures { Dialog no_rules run.one_query_for_two }
+{}
+
+/// The last that listens leaves: the fetch is cancelled, its answer is refused, and its ticket is given up.
+pub fn teardown_in_flight()
+    ensures { Dialog no_rules run.teardown_in_flight }
+{}
