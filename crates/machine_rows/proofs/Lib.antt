@@ -1,3 +1,8 @@
+mod Readings
+mod Views
+mod Told
 mod Dialogs
 mod Opened
+mod States
 mod QueryRuns
+mod MutationRuns

@@ -1,54 +1,43 @@
 -- Runs of queries.
-use Rattle.std.proofs.Common.{◌≡◌, ℕ, List, [], ◌∷◌, codes, refl}
-use Rattle.cache_model.specs.declared.cell.Link.TheViews.{out-roll-Link}
-use Rattle.machine_model.specs.declared.command.Command.TheViews.{out-roll-Command}
+use Rattle.std.proofs.Common.{◌≡◌, ℕ, Bool, true, false, List, [], ◌∷◌, codes, drop, refl}
 use Rattle.machine_model.specs.State.{first_state}
 use Rattle.machine_model.specs.Telling.{no_errors}
+use Rattle.machine_rows.specs.Values.{null}
+use Rattle.machine_rows.proofs.States.{beside_each_other}
+use Rattle.cache_model.specs.declared.cell.Link.TheViews.{out-roll-Link}
+use Rattle.machine_model.specs.declared.command.Command.TheViews.{out-roll-Command}
+use Rattle.machine_rows.specs.Operations.{me_id_name, me_id_nick, me_nick, todo_id_author}
 use Rattle.machine_rows.specs.Dialogs.{no_rows}
 use Rattle.machine_rows.specs.Meanings.{no_rules}
 use Rattle.machine_rows.specs.Queries as run
-use Rattle.machine_rows.proofs.Dialogs.{Rest, ends, begins, begins_many}
-use Rattle.machine_rows.proofs.Opened.{me_written}
+use Rattle.machine_rows.specs.Queries.{me_answer}
+use Rattle.machine_rows.proofs.Readings.{nowhere, to_one, to_authored, nulls_unchanged, todo_unchanged}
+use Rattle.machine_rows.proofs.Views.{saw}
+use Rattle.machine_rows.proofs.Dialogs.{Rest, ends, gave, begins, begins_many, is_command, asks, asks_at, answers}
+use Rattle.machine_rows.proofs.Opened.{me_writes, me_written, nick_writes, nick_written, todo_writes, todo_written}
 
 pub one_query_for_two : Rest no_rules 1 run.one_query_for_two no_rows (first_state no_rows)
 one_query_for_two =
-    begins (rw out-roll-Command (record {
-      told = refl;
-      quiet = refl;
-      rest = (
-          begins (rw out-roll-Command (record {
-            told = refl;
-            quiet = refl;
-            rest = (
-                begins (rw (out-roll-Command, me_written (codes "Ann") no_errors, out-roll-Link) (record {
-                  told = refl;
-                  quiet = refl;
-                  rest = (
-                      ends refl);
-                })));
-          })));
-    }))
+    asks (saw nowhere false true ∷ []) _ refl ((tt, refl), tt) (gave refl refl (
+    asks (saw nowhere false false ∷ saw nowhere false false ∷ []) _ refl ((tt, refl), ((tt, refl), tt)) (gave refl refl (
+    answers (saw (to_one (codes "User:7")) true false ∷ saw (to_one (codes "User:7")) true false ∷ []) 1 (me_answer (codes "Ann")) (me_writes (codes "Ann")) null refl (me_written (codes "Ann") no_errors) (((refl, refl), ((refl, refl), tt)), ((refl, refl), ((refl, refl), tt))) (gave refl refl (
+    ends refl))))))
 
 pub teardown_in_flight : Rest no_rules 1 run.teardown_in_flight no_rows (first_state no_rows)
 teardown_in_flight =
-    begins (rw out-roll-Command (record {
-      told = refl;
-      quiet = refl;
-      rest = (
-          begins (rw out-roll-Command (record {
-            told = refl;
-            quiet = refl;
-            rest = (
-                begins (rw out-roll-Command (record {
-                  told = refl;
-                  quiet = refl;
-                  rest = (
-                      begins (rw out-roll-Command (record {
-                        told = refl;
-                        quiet = refl;
-                        rest = (
-                            ends refl);
-                      })));
-                })));
-          })));
-    }))
+    asks (saw nowhere false true ∷ []) _ refl ((tt, refl), tt) (gave refl refl (
+    is_command _ refl (gave refl refl (
+    is_command _ refl (gave refl refl (
+    is_command _ refl (gave refl refl (
+    ends refl))))))))
+
+pub answers_out_of_order : Rest no_rules 1 run.answers_out_of_order no_rows (first_state no_rows)
+answers_out_of_order =
+    asks (saw nowhere false true ∷ []) _ refl ((tt, refl), tt) (gave refl refl (
+    asks (saw nowhere false false ∷ saw nowhere false true ∷ []) _ refl ((tt, refl), ((tt, refl), tt)) (gave refl refl (
+    answers (saw nowhere false false ∷ saw (to_authored (codes "Todo:1") (codes "User:7")) true false ∷ []) 2 run.todo_answer todo_writes null refl (todo_written no_errors) (((tt, nulls_unchanged), (((refl, refl), refl), tt)), ((tt, refl), (((refl, refl), refl), tt))) (gave refl refl (
+    is_command _ refl (gave refl refl (
+    answers (saw (to_one (codes "User:7")) true false ∷ saw (to_authored (codes "Todo:1") (codes "User:7")) false false ∷ []) 1 (me_answer (codes "Ann")) (me_writes (codes "Ann")) null refl (me_written (codes "Ann") no_errors) (((refl, refl), (((refl, refl), todo_unchanged), tt)), ((refl, refl), (((refl, refl), refl), tt))) (gave refl refl (
+    is_command _ refl (gave refl refl (
+    is_command _ refl (gave refl refl (
+    ends refl))))))))))))))

@@ -11,3 +11,9 @@ pub fn one_query_for_two()
 pub fn teardown_in_flight()
     ensures { Dialog no_rules run.teardown_in_flight }
 {}
+
+/// Two answers about one user come in the other order than their fetches were sent: what was sent last
+/// counts, and no ticket is kept.
+pub fn answers_out_of_order()
+    ensures { Dialog no_rules run.answers_out_of_order }
+{}
