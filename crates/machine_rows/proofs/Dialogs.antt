@@ -1,12 +1,12 @@
 -- Dialogs command by command: each command's step is rewritten as far as it goes before the next one is looked at.
-use Rattle.std.proofs.Common.{◌≡◌, ℕ, ◌+◌, ◌==◌, false, List, [], ◌∷◌, ◌++◌, find, refl, sym, ap, subst, ◌∙◌}
+use Rattle.std.proofs.Common.{◌≡◌, ℕ, ◌+◌, ◌==◌, false, List, [], ◌∷◌, ◌++◌, find, refl, sym, ap, subst, ◌∙◌, Result}
 use Rattle.std.proofs.lemmas.List.{append-nil}
-use Rattle.std.proofs.Common.{Result}
 use Rattle.std.specs.declared.result.Result.TheVariants.{Ok, Err}
 use Rattle.gql_value.specs.declared.value.Value.{Value}
 use Rattle.gql_value.specs.declared.outcome.Fault.{Fault}
 use Rattle.gql_value.specs.declared.outcome.Outcome.TheVariants.{Body, Bad}
 use Rattle.cache_model.specs.declared.write.Write.{Write}
+use Rattle.cache_model.specs.History.{flattened}
 use Rattle.queue_model.specs.Queue.{MutationQueue}
 use Rattle.machine_model.specs.declared.command.Command.{Command}
 use Rattle.machine_model.specs.declared.command.Command.TheOpen.{Command-F, Dispatch-F}
@@ -19,7 +19,6 @@ use Rattle.machine_model.specs.FollowUps.{plain_job}
 use Rattle.machine_model.specs.Steps.{Step, Change}
 use Rattle.machine_model.specs.Queries.{unread}
 use Rattle.machine_model.specs.declared.output.Refusal.{Refusal}
-use Rattle.cache_model.specs.History.{flattened}
 use Rattle.machine_model.specs.Sequels.{concluded}
 use Rattle.machine_model.specs.Telling.{no_errors}
 use Rattle.machine_model.specs.Responses.{response}

@@ -2,7 +2,11 @@ mod Readings
 mod Views
 mod Told
 mod Dialogs
-mod Opened
+mod Writes
 mod States
+mod FirstRun
 mod QueryRuns
+mod FollowUpRuns
 mod MutationRuns
+mod RowRuns
+mod PolicyRuns

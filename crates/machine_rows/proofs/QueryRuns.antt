@@ -3,18 +3,17 @@ use Rattle.std.proofs.Common.{◌≡◌, ℕ, Bool, true, false, List, [], ◌�
 use Rattle.machine_model.specs.State.{first_state}
 use Rattle.machine_model.specs.Telling.{no_errors}
 use Rattle.machine_rows.specs.Values.{null}
-use Rattle.machine_rows.proofs.States.{beside_each_other}
-use Rattle.cache_model.specs.declared.cell.Link.TheViews.{out-roll-Link}
-use Rattle.machine_model.specs.declared.command.Command.TheViews.{out-roll-Command}
 use Rattle.machine_rows.specs.Operations.{me_id_name, me_id_nick, me_nick, todo_id_author}
 use Rattle.machine_rows.specs.Dialogs.{no_rows}
 use Rattle.machine_rows.specs.Meanings.{no_rules}
 use Rattle.machine_rows.specs.Queries as run
 use Rattle.machine_rows.specs.Queries.{me_answer}
+use Rattle.machine_rows.proofs.States.{answered_once, beside_each_other}
+use Rattle.machine_rows.proofs.FirstRun.{answered_first}
 use Rattle.machine_rows.proofs.Readings.{nowhere, to_one, to_authored, nulls_unchanged, todo_unchanged}
 use Rattle.machine_rows.proofs.Views.{saw}
-use Rattle.machine_rows.proofs.Dialogs.{Rest, ends, gave, begins, begins_many, is_command, asks, asks_at, answers}
-use Rattle.machine_rows.proofs.Opened.{me_writes, me_written, nick_writes, nick_written, todo_writes, todo_written}
+use Rattle.machine_rows.proofs.Dialogs.{Rest, ends, gave, is_command, asks, asks_at, answers}
+use Rattle.machine_rows.proofs.Writes.{me_writes, me_written, nick_writes, nick_written, todo_writes, todo_written}
 
 pub one_query_for_two : Rest no_rules 1 run.one_query_for_two no_rows (first_state no_rows)
 one_query_for_two =
@@ -41,3 +40,17 @@ answers_out_of_order =
     is_command _ refl (gave refl refl (
     is_command _ refl (gave refl refl (
     ends refl))))))))))))))
+
+from_beside_each_other : Rest no_rules 5 (drop 4 run.cache_only_beside_network_only) no_rows beside_each_other
+from_beside_each_other =
+    answers (saw (to_one (codes "Query.me@User")) true true ∷ saw (to_one (codes "Query.me@User")) true false ∷ saw (to_one (codes "Query.me@User")) true false ∷ []) 2 run.nick_answer nick_writes null refl (nick_written no_errors) (((refl, refl), ((refl, refl), ((refl, refl), tt))), ((refl, refl), ((refl, refl), ((refl, refl), tt)))) (gave refl refl (
+    ends refl))
+
+from_answered_once : Rest no_rules 3 (drop 2 run.cache_only_beside_network_only) no_rows answered_once
+from_answered_once =
+    asks_at (to_one (codes "User:7")) (saw (to_one (codes "User:7")) false false ∷ saw (to_one (codes "User:7")) false false ∷ []) _ refl refl ((refl, refl), ((refl, refl), tt)) (gave refl refl (
+    asks (saw (to_one (codes "User:7")) false false ∷ saw (to_one (codes "User:7")) false false ∷ saw (to_one (codes "User:7")) false true ∷ []) _ refl ((refl, refl), ((refl, refl), ((refl, refl), tt))) (gave refl refl (
+    from_beside_each_other))))
+
+pub cache_only_beside_network_only : Rest no_rules 1 run.cache_only_beside_network_only no_rows (first_state no_rows)
+cache_only_beside_network_only = answered_first from_answered_once

@@ -18,7 +18,7 @@ use Rattle.machine_rows.specs.Meanings.{identity_of, todo_done, todos_dropped}
 use Rattle.machine_rows.specs.Dialogs.{client, no_rows}
 use Rattle.machine_rows.specs.Queries.{me_told, part}
 use Rattle.machine_rows.specs.Mutations.{done_told, two_rows}
-use Rattle.machine_rows.proofs.Opened.{me_writes, todo_done_writes, todos_writes}
+use Rattle.machine_rows.proofs.Writes.{me_writes, todo_done_writes, todos_writes}
 
 -- a query that has been told something, and one that hasn't
 abbrev live_query : Option (List Command) → ℕ → LiveQuery Operation → LiveOperation Operation
@@ -170,4 +170,17 @@ two_offered = record {
   jobs = [];
   next_fetch = 3;
   identities = [];
+}
+
+-- a query was sent, and these commands are to follow its first reply
+abbrev pub followed_once : List Command → GatewayState Operation
+followed_once commands = record {
+  live = live_query (Some commands) 1 (read_query me_id_name 0 CacheFirst (missed (codes "me")) false) ∷ [];
+  history = no_content ∷ [];
+  fetches = open_fetch 1 1 (Some 0) me_id_name ∷ [];
+  mutations = [];
+  rows = no_rows;
+  jobs = [];
+  next_fetch = 2;
+  identities = identity_of me_id_name ∷ [];
 }

@@ -7,7 +7,17 @@
 #![tactic(auto)]
 
 mod mutations;
+mod policies;
 mod queries;
+mod rows;
 
-pub use mutations::{an_older_answer_brings_nothing_back, answers_in_order_of_sending};
-pub use queries::{answers_out_of_order, one_query_for_two, teardown_in_flight};
+pub use mutations::{
+    a_guess_and_another_answer, a_guess_and_its_answer, an_older_answer_brings_nothing_back,
+    another_listener_stays_at_a_miss, answers_in_order_of_sending, blocked_while_guessed,
+};
+pub use policies::{cache_and_network, cache_first, cache_only, network_only};
+pub use queries::{
+    answers_out_of_order, cache_only_beside_network_only, followed_by_a_torn_down_dispatch,
+    one_query_for_two, teardown_in_flight,
+};
+pub use rows::{queued_and_offered_again, sent_again_under_its_ticket};

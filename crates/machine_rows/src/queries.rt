@@ -17,3 +17,15 @@ pub fn teardown_in_flight()
 pub fn answers_out_of_order()
     ensures { Dialog no_rules run.answers_out_of_order }
 {}
+
+/// What follows the first reply tears its own query down, dispatches another one and takes that out again
+/// before it ran.
+pub fn followed_by_a_torn_down_dispatch()
+    ensures { Dialog no_rules run.followed_by_a_torn_down_dispatch }
+{}
+
+/// A network-only answer without an id leads the root to another object: what others read there is a miss,
+/// and only the cache-first query is sent again.
+pub fn cache_only_beside_network_only()
+    ensures { Dialog no_rules run.cache_only_beside_network_only }
+{}

@@ -1,4 +1,4 @@
--- What was rolled is opened, which doesn't compute by itself outside the crates of its types.
+-- What the answers of the runs write, and what mutations are told of them, by opening each value once.
 use Rattle.std.proofs.Common.{◌≡◌, ℕ, Bool, true, false, List, [], ◌∷◌, ◌++◌, codes, Result, refl, ap, ◌∙◌}
 use Rattle.std.specs.declared.result.Result.TheVariants.{Ok}
 use Rattle.gql_value.specs.declared.value.Value.{Value}
