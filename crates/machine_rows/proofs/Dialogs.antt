@@ -1,5 +1,5 @@
--- Dialogs command by command: each command's step is rewritten as far as it goes before the next one is looked at.
-use Rattle.std.proofs.Common.{◌≡◌, ℕ, ◌+◌, ◌==◌, false, List, [], ◌∷◌, ◌++◌, find, refl, sym, ap, subst, ◌∙◌, Result}
+-- Dialogs command by command: what each command does, by what it reads or is told, and then the rest.
+use Rattle.std.proofs.Common.{◌≡◌, ℕ, ◌+◌, ◌==◌, false, List, [], ◌∷◌, find, refl, sym, ap, subst, ◌∙◌, Result}
 use Rattle.std.proofs.lemmas.List.{append-nil}
 use Rattle.std.specs.declared.result.Result.TheVariants.{Ok, Err}
 use Rattle.gql_value.specs.declared.value.Value.{Value}

@@ -1,5 +1,5 @@
 -- What follows the first answer.
-use Rattle.std.proofs.Common.{◌≡◌, ℕ, Bool, true, false, List, [], ◌∷◌, codes, ◌++◌, refl}
+use Rattle.std.proofs.Common.{true, false, List, [], ◌∷◌, codes, ◌++◌, refl}
 use Rattle.machine_model.specs.State.{first_state}
 use Rattle.machine_model.specs.Telling.{no_errors}
 use Rattle.machine_rows.specs.Values.{null}

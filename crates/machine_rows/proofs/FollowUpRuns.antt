@@ -1,5 +1,5 @@
 -- The run with commands that follow the first reply.
-use Rattle.std.proofs.Common.{◌≡◌, ℕ, true, false, List, [], ◌∷◌, codes, drop, refl, sym, ap, subst, ◌∙◌}
+use Rattle.std.proofs.Common.{◌≡◌, true, false, List, [], ◌∷◌, codes, drop, refl, sym, ap, subst, ◌∙◌}
 use Rattle.std.specs.declared.result.Result.TheVariants.{Ok}
 use Rattle.gql_value.specs.declared.outcome.Outcome.TheVariants.{Body}
 use Rattle.machine_model.specs.declared.command.Command.{Command}

@@ -1,12 +1,11 @@
 -- Runs with mutations.
-use Rattle.std.proofs.Common.{◌≡◌, ℕ, Bool, true, false, List, [], ◌∷◌, codes, drop, refl}
-use Rattle.gql_value.specs.declared.outcome.Fault.TheVariants.{F5, F6}
+use Rattle.std.proofs.Common.{true, false, [], ◌∷◌, codes, drop, refl}
+use Rattle.gql_value.specs.declared.outcome.Fault.TheVariants.{F5}
 use Rattle.machine_model.specs.State.{first_state}
 use Rattle.machine_model.specs.Telling.{no_errors}
 use Rattle.machine_rows.specs.Values.{null}
-use Rattle.machine_rows.specs.Operations.{me_id_name, me_id, todo_id_done, todos_id, set_done}
 use Rattle.machine_rows.specs.Dialogs.{no_rows}
-use Rattle.machine_rows.specs.Meanings.{guessing, invalidating_users, guessing_and_invalidating, meaning}
+use Rattle.machine_rows.specs.Meanings.{guessing, invalidating_users, guessing_and_invalidating}
 use Rattle.machine_rows.specs.Mutations as run
 use Rattle.machine_rows.specs.Queries.{me_answer}
 use Rattle.machine_rows.specs.Mutations.{rename_told, done_told}

@@ -1,10 +1,9 @@
 -- Runs under each policy.
-use Rattle.std.proofs.Common.{◌≡◌, ℕ, Bool, true, false, List, [], ◌∷◌, codes, ◌++◌, refl}
+use Rattle.std.proofs.Common.{true, false, [], ◌∷◌, codes, refl}
 use Rattle.send_rules.specs.declared.policy.Policy.TheVariants.{CacheFirst, CacheOnly, NetworkOnly, CacheAndNetwork}
 use Rattle.machine_model.specs.State.{first_state}
-use Rattle.machine_model.specs.Telling.{no_errors}
 use Rattle.machine_rows.specs.Values.{null}
-use Rattle.machine_rows.specs.Operations.{document_of, me_id_name, me_id, me_id_nick, todos_id}
+use Rattle.machine_rows.specs.Operations.{document_of, me_id, me_id_nick, todos_id}
 use Rattle.machine_rows.specs.Dialogs.{gives, no_rows, dispatch_under, reply, told, fetch}
 use Rattle.machine_rows.specs.Meanings.{no_rules}
 use Rattle.machine_rows.specs.Queries as run

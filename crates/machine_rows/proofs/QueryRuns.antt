@@ -1,9 +1,8 @@
 -- Runs of queries.
-use Rattle.std.proofs.Common.{◌≡◌, ℕ, Bool, true, false, List, [], ◌∷◌, codes, drop, refl}
+use Rattle.std.proofs.Common.{true, false, [], ◌∷◌, codes, drop, refl}
 use Rattle.machine_model.specs.State.{first_state}
 use Rattle.machine_model.specs.Telling.{no_errors}
 use Rattle.machine_rows.specs.Values.{null}
-use Rattle.machine_rows.specs.Operations.{me_id_name, me_id_nick, me_nick, todo_id_author}
 use Rattle.machine_rows.specs.Dialogs.{no_rows}
 use Rattle.machine_rows.specs.Meanings.{no_rules}
 use Rattle.machine_rows.specs.Queries as run

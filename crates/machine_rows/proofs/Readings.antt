@@ -1,4 +1,4 @@
--- What operations read where the root has a link.
+-- What operations read, by where their root field leads, and when two values of the runs are alike. Links and values are opened here once, since that doesn't compute outside the crates of their types.
 use Rattle.std.proofs.Common.{◌≡◌, ℕ, Bool, true, false, cond, not, List, [], ◌∷◌, ◌++◌, map, codes, Option, Some, None, refl, ap, ◌∙◌}
 use Rattle.gql_value.specs.declared.value.Value.{map-Value}
 use Rattle.gql_value.specs.declared.value.Value.TheOpen.{Value-F}
@@ -11,7 +11,7 @@ use Rattle.cache_model.specs.Maps.{CellMap}
 use Rattle.machine_model.specs.Operations.{Reading}
 use Rattle.machine_model.specs.Readings.{Likeness, like_level, like_step, same_value}
 use Rattle.machine_rows.specs.Values.{null, list}
-use Rattle.machine_rows.specs.Operations.{Operation, Leaf, Asked, asked_by}
+use Rattle.machine_rows.specs.Operations.{Operation, Leaf, asked_by}
 use Rattle.machine_rows.specs.Queries.{todo_told}
 use Rattle.machine_rows.specs.Mutations.{done_told}
 use Rattle.machine_rows.specs.Reading.{Found, looked, together, or_null, object_found, linked, item_found, link_in, leaf_names, leaf_found, plain_found, entity_found, reading_found, read_by}

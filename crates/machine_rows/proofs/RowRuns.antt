@@ -1,13 +1,12 @@
 -- Runs over the queue of mutations.
-use Rattle.std.proofs.Common.{◌≡◌, ℕ, Bool, true, false, List, [], ◌∷◌, codes, drop, refl}
+use Rattle.std.proofs.Common.{true, false, [], ◌∷◌, codes, drop, refl}
 use Rattle.gql_value.specs.declared.outcome.Fault.TheVariants.{F6}
 use Rattle.machine_model.specs.State.{first_state}
 use Rattle.machine_model.specs.Telling.{no_errors}
 use Rattle.machine_model.specs.Steps.{Step}
-use Rattle.machine_rows.specs.Values.{null}
 use Rattle.machine_rows.specs.Operations.{Operation}
 use Rattle.machine_rows.specs.Dialogs.{no_rows}
-use Rattle.machine_rows.specs.Meanings.{guessing, meaning}
+use Rattle.machine_rows.specs.Meanings.{guessing}
 use Rattle.machine_rows.specs.Mutations as run
 use Rattle.machine_rows.specs.Mutations.{Opens, two_rows, rows_done, second_row, both_sent, done_told}
 use Rattle.machine_rows.proofs.States.{two_sent, two_offered}

@@ -1,6 +1,5 @@
 -- States between the commands of runs, written out.
 use Rattle.std.proofs.Common.{ℕ, Bool, true, false, List, [], ◌∷◌, ◌++◌, codes, Option, Some, None}
-use Rattle.gql_value.specs.declared.value.Value.{Value}
 use Rattle.cache_model.specs.declared.kind.Kind.{Kind}
 use Rattle.cache_model.specs.declared.kind.Kind.TheVariants.{Optimistic, Final}
 use Rattle.cache_model.specs.declared.write.Write.{Write}

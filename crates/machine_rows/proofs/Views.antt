@@ -1,5 +1,5 @@
 -- The step of a command where it is given what opaque values tell: what each live query reads, whether that differs from its last reading, and which queries are sent. All else computes.
-use Rattle.std.proofs.Common.{◌≡◌, ℕ, ◌==◌, ◌&&◌, ◌||◌, Bool, true, false, not, if◌then◌else◌, List, [], ◌∷◌, ◌++◌, map, flat_map, Option, Some, None, refl, ap, ◌∙◌}
+use Rattle.std.proofs.Common.{◌≡◌, ◌==◌, ◌&&◌, ◌||◌, Bool, false, not, if◌then◌else◌, List, [], ◌∷◌, ◌++◌, map, flat_map, Option, Some, None, refl, ap, ◌∙◌}
 use Rattle.cache_model.specs.History.{flattened, is_blocked}
 use Rattle.machine_model.specs.declared.command.Command.{Command}
 use Rattle.machine_model.specs.declared.output.Out.{Out}

@@ -1,14 +1,13 @@
 -- What the answers of the runs write, and what mutations are told of them, by opening each value once.
-use Rattle.std.proofs.Common.{◌≡◌, ℕ, Bool, true, false, List, [], ◌∷◌, ◌++◌, codes, Result, refl, ap, ◌∙◌}
+use Rattle.std.proofs.Common.{◌≡◌, ℕ, Bool, List, [], ◌∷◌, codes}
 use Rattle.std.specs.declared.result.Result.TheVariants.{Ok}
 use Rattle.gql_value.specs.declared.value.Value.{Value}
-use Rattle.gql_value.specs.declared.value.Value.TheOpen.{Value-F}
 use Rattle.gql_value.specs.declared.value.Value.TheViews.{out-roll-Value}
 use Rattle.cache_model.specs.declared.cell.Cell.TheVariants as cell
 use Rattle.cache_model.specs.declared.write.Write.{Write}
 use Rattle.cache_model.specs.declared.write.Write.TheVariants.{Set}
-use Rattle.machine_rows.specs.Values.{null, truth, text, object}
-use Rattle.machine_rows.specs.Operations.{Operation, me_id_name, me_nick, todo_id_author, todo_id_done, todos_id, rename_bob, set_done, todo_key}
+use Rattle.machine_rows.specs.Values.{truth, text}
+use Rattle.machine_rows.specs.Operations.{me_id_name, me_nick, todo_id_author, todo_id_done, todos_id, rename_bob, set_done, todo_key}
 use Rattle.machine_rows.specs.Writing.{link_to, links_to, written_by, projected_by}
 use Rattle.machine_rows.specs.Queries.{me_answer, todo_answer, nick_answer}
 use Rattle.machine_rows.specs.Mutations.{rename_answer, rename_told, done_answer, done_told, todos_answer}

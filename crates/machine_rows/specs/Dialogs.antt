@@ -1,5 +1,5 @@
 -- Commands with what is given out by each.
-use Rattle.std.specs.Prelude.{◌≡◌, ℕ, ◌+◌, Bool, true, false, List, [], ◌∷◌, codes, Option, None}
+use Rattle.std.specs.Prelude.{◌≡◌, ℕ, ◌+◌, Bool, false, List, [], ◌∷◌, codes, None}
 use Rattle.gql_value.specs.declared.value.Value.{Value}
 use Rattle.gql_value.specs.declared.outcome.Fault.{Fault}
 use Rattle.gql_value.specs.declared.outcome.Outcome.TheVariants.{Body, Bad}

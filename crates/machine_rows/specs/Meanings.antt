@@ -1,13 +1,12 @@
 -- What the operations mean under declared rules.
-use Rattle.std.specs.Prelude.{ℕ, Bool, List, [], ◌∷◌, ◌++◌, codes, Option, Some, None}
-use Rattle.gql_value.specs.declared.value.Value.{Value}
+use Rattle.std.specs.Prelude.{Bool, List, [], ◌∷◌, ◌++◌, codes, Option, Some, None}
 use Rattle.cache_model.specs.declared.cell.Cell.TheVariants as cell
 use Rattle.cache_model.specs.declared.write.Write.{Write}
 use Rattle.cache_model.specs.declared.write.Write.TheVariants.{Set, DropName, DropAll}
 use Rattle.machine_model.specs.declared.command.Dispatch.{out-Dispatch}
 use Rattle.machine_model.specs.Operations.{Meaning, Identity, Request}
 use Rattle.machine_rows.specs.Values.{text, truth}
-use Rattle.machine_rows.specs.Operations.{Operation, me_id_name, rename_bob, set_done, kind_of, document_of, sent_text, documents, stored_documents, operation_in}
+use Rattle.machine_rows.specs.Operations.{Operation, rename_bob, set_done, kind_of, document_of, sent_text, documents, stored_documents, operation_in}
 use Rattle.machine_rows.specs.Reading.{read_by}
 use Rattle.machine_rows.specs.Writing.{written_by, projected_by}
 

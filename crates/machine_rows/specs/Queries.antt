@@ -1,16 +1,15 @@
 -- Runs of queries.
-use Rattle.std.specs.Prelude.{ℕ, Bool, true, false, List, [], ◌∷◌, ◌++◌, codes}
+use Rattle.std.specs.Prelude.{ℕ, true, false, List, [], ◌∷◌, ◌++◌, codes}
 use Rattle.gql_value.specs.declared.value.Value.{Value}
-use Rattle.cache_model.specs.declared.cell.Cell.{Cell}
 use Rattle.cache_model.specs.declared.cell.Cell.TheVariants as cell
 use Rattle.cache_model.specs.Listing.{Row}
 use Rattle.send_rules.specs.declared.policy.Policy.{Policy}
-use Rattle.send_rules.specs.declared.policy.Policy.TheVariants.{CacheFirst, CacheOnly, NetworkOnly, CacheAndNetwork}
+use Rattle.send_rules.specs.declared.policy.Policy.TheVariants.{CacheFirst, CacheOnly, NetworkOnly}
 use Rattle.machine_model.specs.declared.output.Out.{Out}
 use Rattle.machine_model.specs.declared.output.Out.TheVariants as out
 use Rattle.machine_model.specs.declared.output.Refusal.TheVariants.{E5, E10}
 use Rattle.machine_rows.specs.Values.{null, text, object}
-use Rattle.machine_rows.specs.Operations.{Operation, me_id_name, me_id_nick, me_nick, todo_id_author, todos_id, todo_key}
+use Rattle.machine_rows.specs.Operations.{me_id_name, me_nick, todo_id_author, todo_key}
 use Rattle.machine_rows.specs.Writing.{link_to}
 use Rattle.machine_rows.specs.Dialogs.{Exchange, gives, client, dispatch, dispatch_under, dispatch_then, teardown, answer, layers, flat, reply, told, fetch, refused, kept}
 

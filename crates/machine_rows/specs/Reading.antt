@@ -1,7 +1,7 @@
 -- The reading of an operation from a map of cells.
-use Rattle.std.specs.Prelude.{ℕ, Bool, true, false, not, ◌&&◌, ◌||◌, if◌then◌else◌, List, [], ◌∷◌, ◌++◌, map, flat_map, codes, Option, Some, None, is_some}
+use Rattle.std.specs.Prelude.{ℕ, Bool, true, false, not, ◌||◌, if◌then◌else◌, List, [], ◌∷◌, ◌++◌, map, flat_map, codes, Option, Some, None, is_some}
 use Rattle.std.specs.List.{list_any}
-use Rattle.std.specs.Option.{option_map, option_map_or}
+use Rattle.std.specs.Option.{option_map}
 use Rattle.gql_value.specs.declared.value.Value.{Value}
 use Rattle.cache_model.specs.declared.cell.Cell.{Cell}
 use Rattle.cache_model.specs.declared.cell.Cell.TheVariants as cell

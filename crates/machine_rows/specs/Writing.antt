@@ -13,7 +13,7 @@ use Rattle.cache_model.specs.declared.cell.Link.TheViews.{roll-Link}
 use Rattle.cache_model.specs.declared.write.Write.{Write}
 use Rattle.cache_model.specs.declared.write.Write.TheVariants.{Set}
 use Rattle.cache_model.specs.Keys.{keyed_text, embedded_text}
-use Rattle.machine_rows.specs.Values.{null, list, object, members_in, text_in, member_named}
+use Rattle.machine_rows.specs.Values.{null, object, members_in, text_in, member_named}
 use Rattle.machine_rows.specs.Operations.{Operation, Leaf, Asked, kind_of, asked_by}
 
 -- a link to an object, and one to several

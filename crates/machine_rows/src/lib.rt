@@ -1,9 +1,9 @@
 //! Worked runs of the machine (`machine_model`), as laws on functions that do nothing: which outputs each of
 //! some commands gives, in order, by the machine's own definitions. It stands on these and on what they need.
 //!
-//! `specs/` has a small meaning of a few operations over one schema, with a reading and the writes of an
-//! answer, then commands and outputs by short names, and the runs. Only the machine is shown here: that
-//! documents mean what the specification says is proved of the layers below, over every document.
+//! `specs/` has a small meaning of a few operations over one schema (`Operations.antt` to `Meanings.antt`), then
+//! commands and outputs by short names (`Dialogs.antt`), and the runs (`Queries.antt`, `Mutations.antt`). Only the
+//! machine is shown here: what documents read and write is proved of the layers below, over every document.
 #![tactic(auto)]
 
 mod mutations;
