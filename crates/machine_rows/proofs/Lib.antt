@@ -1,0 +1,12 @@
+mod Readings
+mod Views
+mod Told
+mod Dialogs
+mod Writes
+mod States
+mod FirstRun
+mod QueryRuns
+mod FollowUpRuns
+mod MutationRuns
+mod RowRuns
+mod PolicyRuns
