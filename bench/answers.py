@@ -21,24 +21,17 @@ import os
 import re
 import subprocess
 
+from processor_time import least_of_three
+
 FORMS = ("json", "answer", "write", "read")
 JUDGED = ("write", "read")
 TODOS = (200, 2_000, 20_000)
 GROWTH = 12
 
 
-def processor_time(words):
-    """The processor time of a run, in milliseconds."""
-    child = subprocess.Popen(words, stdout=subprocess.DEVNULL)
-    _, status, used = os.wait4(child.pid, 0)
-    if status != 0:
-        raise SystemExit("not the wanted answer: %s" % " ".join(words))
-    return used.ru_utime * 1e3
-
-
 def milliseconds(words):
     """The least processor time of three runs."""
-    return min(processor_time(words) for _ in range(3))
+    return least_of_three(words) * 1e3
 
 
 def millions(words):

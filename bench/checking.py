@@ -15,8 +15,9 @@ has to be where Python finds it.
 
 import argparse
 import os
-import subprocess
 import time
+
+from processor_time import least_of_three
 
 STEPS = ("parse", "check", "identity")
 ALIASES = (1_250, 2_500, 5_000, 10_000)
@@ -35,26 +36,15 @@ PAGE = (
 def milliseconds(program, step, document, turns):
     """The least processor time of three runs, for one turn."""
     words = [program, step, document, str(turns)]
-    least = None
-    for _ in range(3):
-        child = subprocess.Popen(words, stdout=subprocess.DEVNULL)
-        _, status, used = os.wait4(child.pid, 0)
-        if status != 0:
-            raise SystemExit("refused: %s" % " ".join(words))
-        taken = (used.ru_utime + used.ru_stime) / turns * 1e3
-        least = taken if least is None else min(least, taken)
-    return least
+    return least_of_three(words) / turns * 1e3
 
 
-def least_of_three(call, turns):
-    least = None
-    for _ in range(3):
-        start = time.process_time()
-        for _ in range(turns):
-            call()
-        taken = (time.process_time() - start) / turns * 1e3
-        least = taken if least is None else min(least, taken)
-    return least
+def of_calls(call, turns):
+    """The milliseconds of one of so many calls in this process."""
+    start = time.process_time()
+    for _ in range(turns):
+        call()
+    return (time.process_time() - start) / turns * 1e3
 
 
 def by_graphql_core(turns):
@@ -70,7 +60,7 @@ def by_graphql_core(turns):
         return document
 
     calls = (lambda: graphql.parse(PAGE), checked, lambda: graphql.print_ast(checked()))
-    return graphql.__version__, [least_of_three(call, turns) for call in calls]
+    return graphql.__version__, [min(of_calls(call, turns) for _ in range(3)) for call in calls]
 
 
 def main():

@@ -14,7 +14,8 @@ each response comes to its answer.
 
 import argparse
 import os
-import subprocess
+
+from processor_time import least_of_three
 
 BODIES = (1_000_000, 2_000_000, 4_000_000, 8_000_000)
 HEADS = (8_000, 16_000, 32_000, 65_000)
@@ -25,15 +26,7 @@ def nanoseconds(program, form, size, arrival):
     """The least processor time of three runs, for one turn. A run makes its message once."""
     turns = max(3, 8_000_000 // size)
     words = [program, form, str(size), str(arrival), str(turns)]
-    least = None
-    for _ in range(3):
-        child = subprocess.Popen(words, stdout=subprocess.DEVNULL)
-        _, status, used = os.wait4(child.pid, 0)
-        if status != 0:
-            raise SystemExit("not the wanted answer: %s" % " ".join(words))
-        taken = used.ru_utime / turns * 1e9
-        least = taken if least is None else min(least, taken)
-    return least
+    return least_of_three(words) / turns * 1e9
 
 
 def main():
