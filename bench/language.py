@@ -6,7 +6,7 @@
 A document of 2,000 and one of 20,000 fields are each dispatched several times, in three ways. Behind 65
 brackets the text is refused before it is parsed (E14). With the name of an operation that it doesn't
 have it is refused once it is parsed (E7), so the difference to the first is the parser's. As it is the
-document is judged too: by all rules, until it is refused for having aliases (E3) or for its size (E17).
+document is judged too: by all rules, until it is refused for having aliases (E3).
 Where DIR, the folder of graphql-js, is given, its `parse` reads the same texts under node.
 """
 
@@ -75,7 +75,7 @@ def main():
     program = os.path.abspath(options.bin)
     for fields, times in ((2000, 100), (20000, 10)):
         text = document(fields)
-        judged = seconds(program, dispatches(text, times), (b'"E3","member":"query"', b'"E17"'))
+        judged = seconds(program, dispatches(text, times), (b'"E3","member":"query"',))
         parsed = seconds(program, dispatches(text, times, operationName="none"), (b'"E7"',))
         lexed = seconds(program, dispatches("{" * 65 + text, times), (b'"E14"',))
         row = "%d fields, %d bytes: %.2f ms a parsed document, of which the parser %.2f ms; judged too %.2f ms" % (
