@@ -1,0 +1,4 @@
+pub mod Grows
+pub mod SelectionLaws
+pub mod DefinitionLaws
+pub mod TextLaws
