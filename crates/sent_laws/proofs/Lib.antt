@@ -1,0 +1,6 @@
+pub mod Grows
+pub mod SelectionLaws
+pub mod DefinitionLaws
+pub mod TextLaws
+pub mod Sets
+pub mod FrontLaws
