@@ -1,5 +1,5 @@
 -- The first value that a list gives, where at most one of its items gives one.
-use Rattle.std.proofs.Common.{◌≡◌, ℕ, zero, suc, ◌+◌, ◌≤◌, ◌<◌, Bool, true, false, cond, List, [], ◌∷◌, ◌++◌, length, get_or, refl, sym, ap, ◌∙◌, ◌⊎◌, inl, inr, ⊎_elim, arith, Option, Some, None, is_some, unwrap_or}
+use Rattle.std.proofs.Common.{◌≡◌, ℕ, zero, suc, ◌+◌, ◌≤◌, Bool, cond, List, [], ◌∷◌, refl, sym, ap, ◌∙◌, ◌⊎◌, inl, inr, ⊎_elim, arith, Option, Some, None, is_some, unwrap_or}
 use Rattle.std.specs.Option.{option_or}
 use Rattle.std.specs.List.{All, AllByRecursion, count_by}
 use Rattle.std.specs.List.Sorted.{IsPermutation}
@@ -38,14 +38,14 @@ module _ {X V : Type 0} (f : X → Option V) where
   first_some x xs v is = ap (λ (o : Option V). option_or o (first xs)) is
 
 -- an item gives a value or none
-cases : {V : Type 0} (o : Option V) → (o ≡ None) ⊎ ((v : V) × (o ≡ Some v))
+pub cases : {V : Type 0} (o : Option V) → (o ≡ None) ⊎ ((v : V) × (o ≡ Some v))
 cases None = inl refl
 cases (Some v) = inr (v, refl)
 
-none_some : {V : Type 0} (v : V) → Some v ≡ None → ⊥
+pub none_some : {V : Type 0} (v : V) → Some v ≡ None → ⊥
 none_some v e = absurd (false≢true (sym (ap is_some e)))
 
-same_some : {V : Type 0} (v w : V) → Some v ≡ Some w → v ≡ w
+pub same_some : {V : Type 0} (v w : V) → Some v ≡ Some w → v ≡ w
 same_some v w e = ap (λ o. unwrap_or o v) e
 
 module _ {X V : Type 0} (f : X → Option V) where

@@ -1,3 +1,13 @@
+mod CircleLaws
+mod FaultLaws
+mod FillsLaws
 mod FirstLaws
+mod NeedsLaws
+mod NumberLaws
 mod OrderLaws
+mod PartsLaws
+mod PlaceLaws
+mod RepeatedLaws
+mod RuleLaws
 mod TabledLaws
+mod VerdictLaws

@@ -1,9 +1,8 @@
 -- Definitions of which none stands twice, in another order.
-use Rattle.std.proofs.Common.{◌≡◌, ℕ, ◌+◌, ◌≤◌, Bool, true, false, cond, List, [], ◌∷◌, ◌++◌, map, refl, sym, ap, ◌∙◌, ◌⊎◌, inl, inr, ⊎_elim, arith, Option, Some, None, is_some, unwrap_or, option_map, codes, bytes_eq}
+use Rattle.std.proofs.Common.{◌≡◌, ℕ, ◌+◌, ◌≤◌, Bool, true, false, cond, List, [], ◌∷◌, ◌++◌, map, refl, sym, ap, ◌∙◌, ⊎_elim, arith, Option, Some, None, is_some, unwrap_or, option_map, codes, bytes_eq}
 use Rattle.std.specs.Option.{option_or, option_to_list}
-use Rattle.std.specs.List.{AllByRecursion, fold, flat_map, count_by, sum_by}
+use Rattle.std.specs.List.{AllByRecursion, fold, flat_map, count_by}
 use Rattle.std.specs.List.Sorted.{IsPermutation}
-use Rattle.std.specs.Cmp.{IsEquivalence}
 use Rattle.std.specs.Cmp.Lexicographic.{nat_list_eq_equiv}
 use Rattle.std.proofs.lemmas.Bool.{both_ways, cases_Bool}
 use Rattle.std.proofs.lemmas.List.Sums.{sum_by-cons, sum_by-append}
@@ -24,7 +23,7 @@ use Rattle.schema_order.proofs.TabledLaws.{entry-append, entry_tabled, entry_fla
 
 -- ---- names that stand once
 
-earlier_parts : (a b : Option ℕ) → earlier a b ≡ None → (a ≡ None) × (b ≡ None)
+pub earlier_parts : (a b : Option ℕ) → earlier a b ≡ None → (a ≡ None) × (b ≡ None)
 earlier_parts None b e = (refl, e)
 earlier_parts (Some a) None e = absurd cc
 earlier_parts (Some a) (Some b) e = absurd cc
@@ -37,13 +36,13 @@ least_none line known (x ∷ xs) e =
     let parts = earlier_parts known (line x) rest.0 in
     (parts.0, (parts.1, rest.1))
 
-abbrev has_name : List ℕ → Mark → Bool
+abbrev pub has_name : List ℕ → Mark → Bool
 has_name name m = bytes_eq name m.0
 
-abbrev of_name : List ℕ → List Mark → ℕ
+abbrev pub of_name : List ℕ → List Mark → ℕ
 of_name name ms = count_by (has_name name) ms
 
-of_name_cons : (name : List ℕ) (m : Mark) (ms : List Mark) → of_name name (m ∷ ms) ≡ tick (has_name name m) + of_name name ms
+pub of_name_cons : (name : List ℕ) (m : Mark) (ms : List Mark) → of_name name (m ∷ ms) ≡ tick (has_name name m) + of_name name ms
 of_name_cons name m ms = sum_by-cons (λ k. tick (has_name name k)) m ms
 
 differ_case : (b : Bool) (line : ℕ) → cond b (Some line) None ≡ None → b ≡ false
@@ -61,7 +60,7 @@ none_else name m (k ∷ ms) same all =
     (λ not_here. let zero : tick (has_name name k) ≡ 0 = ap tick not_here in omega arith)
     (cases_Bool (bytes_eq name k.0))
 
-at_most_once : (name : List ℕ) (ms : List Mark) → repeated ms ≡ None → of_name name ms ≤ 1
+pub at_most_once : (name : List ℕ) (ms : List Mark) → repeated ms ≡ None → of_name name ms ≤ 1
 at_most_once name [] e = omega arith
 at_most_once name (m ∷ ms) e =
     let parts = earlier_parts (least_by (same_name m) ms) (repeated ms) e in
@@ -83,13 +82,13 @@ repeated_back (m ∷ ms) ks e = repeated_back ms ks (earlier_parts (least_by (sa
 
 -- ---- what a definition gives under a name, and its marks
 
-abbrev type_marks_of : TypeSystemForm → List Mark
+abbrev pub type_marks_of : TypeSystemForm → List Mark
 type_marks_of d = option_to_list (option_map mark_of (type_mark d))
 
-abbrev directive_marks_of : TypeSystemForm → List Mark
+abbrev pub directive_marks_of : TypeSystemForm → List Mark
 directive_marks_of d = option_to_list (option_map mark_of (directive_mark d))
 
-abbrev schema_marks_of : TypeSystemForm → List Mark
+abbrev pub schema_marks_of : TypeSystemForm → List Mark
 schema_marks_of (form.Schema d) = (codes "schema", d.place.row) ∷ []
 schema_marks_of _ = []
 

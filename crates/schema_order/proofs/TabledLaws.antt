@@ -1,9 +1,7 @@
 -- What a table finds is what stands first in the list that it is made of.
-use Rattle.std.proofs.Common.{◌≡◌, ℕ, ◌+◌, Bool, true, false, cond, List, [], ◌∷◌, ◌++◌, refl, sym, ap, ◌∙◌, ◌⊎◌, inl, inr, ⊎_elim, Option, Some, None, is_some, bytes_eq}
+use Rattle.std.proofs.Common.{◌≡◌, ℕ, ◌+◌, Bool, true, false, cond, List, [], ◌∷◌, ◌++◌, refl, sym, ap, ◌∙◌, Option, Some, None, is_some, bytes_eq}
 use Rattle.std.specs.Option.{option_or}
 use Rattle.std.specs.List.{fold, flat_map, position_from}
-use Rattle.std.specs.Map.{lookup}
-use Rattle.std.specs.Cmp.{IsEquivalence}
 use Rattle.std.specs.Cmp.Lexicographic.{nat_list_eq_equiv}
 use Rattle.schema_model.specs.Tables.{place_of, entry, put, tabled}
 use Rattle.schema_order.proofs.FirstLaws.{first}
@@ -15,11 +13,11 @@ Pairs X = List (List ℕ × X)
 abbrev one : {X : Type 0} → List ℕ → List ℕ × X → Option X
 one name p = cond (bytes_eq name p.0) (Some p.1) None
 
-or_assoc : {X : Type 0} (a b c : Option X) → option_or (option_or a b) c ≡ option_or a (option_or b c)
+pub or_assoc : {X : Type 0} (a b c : Option X) → option_or (option_or a b) c ≡ option_or a (option_or b c)
 or_assoc None b c = refl
 or_assoc (Some x) b c = refl
 
-or_none : {X : Type 0} (a : Option X) → option_or a None ≡ a
+pub or_none : {X : Type 0} (a : Option X) → option_or a None ≡ a
 or_none None = refl
 or_none (Some x) = refl
 
@@ -43,11 +41,11 @@ placed_case : {X : Type 0} (b : Bool) (i : ℕ) (x : X) (o : Option ℕ) (r : Op
 placed_case true i x o r same = refl
 placed_case false i x o r same = same
 
-placed_from : {X : Type 0} (name : List ℕ) (i : ℕ) (ps : Pairs X) → is_some (position_from (λ p. bytes_eq name p.0) i ps) ≡ is_some (entry ps name)
+pub placed_from : {X : Type 0} (name : List ℕ) (i : ℕ) (ps : Pairs X) → is_some (position_from (λ p. bytes_eq name p.0) i ps) ≡ is_some (entry ps name)
 placed_from name i [] = refl
 placed_from name i (p ∷ ps) = placed_case (bytes_eq name p.0) i p.1 _ (entry ps name) (placed_from name (i + 1) ps)
 
-entry_congr : {X : Type 0} (a b : List ℕ) (ps : Pairs X) → bytes_eq a b ≡ true → entry ps a ≡ entry ps b
+pub entry_congr : {X : Type 0} (a b : List ℕ) (ps : Pairs X) → bytes_eq a b ≡ true → entry ps a ≡ entry ps b
 entry_congr a b [] same = refl
 entry_congr a b (p ∷ ps) same =
     ap (λ t. cond t (Some p.1) (entry ps a)) (nat_list_eq_equiv.congr a b p.0 same)

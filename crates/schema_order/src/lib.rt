@@ -1,11 +1,22 @@
-//! A law of schemas: the order of the definitions doesn't matter to look-ups by name. It stands on
-//! `gql_schema`. The function does nothing.
+//! Laws of schemas: the order of the definitions doesn't matter to look-ups by name, nor to the
+//! verdict. They stand on `gql_schema`. The functions do nothing.
 #![tactic(auto)]
 
 ghost use Rattle.schema_order.specs.Order.{OrderIsFree};
+ghost use Rattle.schema_order.specs.Verdict.{VerdictIsFree};
+
+use digraph::walks_are_decided;
 
 /// Definitions that break no rule against what stands twice give, in any order, the same types and
 /// directives by name, and the same roots. Their places go with them.
 pub fn order_is_free()
     ensures { OrderIsFree }
 {}
+
+/// Definitions are accepted in any order or in none, and refused with the same code. The line that is
+/// told may differ.
+pub fn verdict_is_free()
+    ensures { VerdictIsFree }
+{
+    walks_are_decided();
+}
