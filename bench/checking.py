@@ -15,9 +15,8 @@ has to be where Python finds it.
 
 import argparse
 import os
-import time
 
-from processor_time import least_of_three
+from processor_time import least_of_three, of_calls
 
 STEPS = ("parse", "check", "identity")
 ALIASES = (1_250, 2_500, 5_000, 10_000)
@@ -39,14 +38,6 @@ def milliseconds(program, step, document, turns):
     return least_of_three(words) / turns * 1e3
 
 
-def of_calls(call, turns):
-    """The milliseconds of one of so many calls in this process."""
-    start = time.process_time()
-    for _ in range(turns):
-        call()
-    return (time.process_time() - start) / turns * 1e3
-
-
 def by_graphql_core(turns):
     """The three steps of the page by graphql-core, in milliseconds."""
     import graphql
@@ -60,7 +51,7 @@ def by_graphql_core(turns):
         return document
 
     calls = (lambda: graphql.parse(PAGE), checked, lambda: graphql.print_ast(checked()))
-    return graphql.__version__, [min(of_calls(call, turns) for _ in range(3)) for call in calls]
+    return graphql.__version__, [of_calls(call, turns) for call in calls]
 
 
 def main():

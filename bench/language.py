@@ -1,21 +1,25 @@
 #!/usr/bin/env python3
 """How long reading and judging documents takes, over the built program: one of 100 KB and one of 1 MB.
 
-    bench/language.py --bin PATH [--graphql DIR]
+    bench/language.py --bin PATH [--graphql DIR] [--graphql-core]
 
 A document of 2,000 and one of 20,000 fields are each dispatched several times, in three ways. Behind 65
 brackets the text is refused before it is parsed (E14). With the name of an operation that it doesn't
 have it is refused once it is parsed (E7), so the difference to the first is the parser's. As it is the
 document is judged too: by all rules, until it is refused for having aliases (E3).
-Where DIR, the folder of graphql-js, is given, its `parse` reads the same texts under node.
+Times are the processor's, the least of three runs.
+
+Where DIR, the folder of graphql-js, is given, its `parse` reads the same texts under node. With
+`--graphql-core` graphql-core's `parse` reads them in Python; it has to be where Python finds it.
 """
 
 import argparse
 import json
 import os
 import subprocess
-import tempfile
-import time
+
+import gate_run
+from processor_time import of_calls
 
 
 def document(fields):
@@ -39,21 +43,11 @@ def dispatches(text, times, **members):
 
 
 def seconds(program, data, wanted):
-    with tempfile.TemporaryDirectory() as place:
-        names = [os.path.join(place, name) for name in ("schema", "rules", "queue")]
-        for name, text in zip(names, (SCHEMA, b"")):
-            with open(name, "wb") as file:
-                file.write(text)
-        words = ["run", "--schema", names[0], "--rules", names[1], "--queue", names[2]]
-        best = None
-        for _ in range(3):
-            start = time.perf_counter()
-            done = subprocess.run([program] + words, input=data, stdout=subprocess.PIPE, check=True)
-            taken = time.perf_counter() - start
-            if not any(code in done.stdout.split(b"\n", 1)[0] for code in wanted):
-                raise SystemExit("not the wanted answer: %r" % done.stdout[:200])
-            best = taken if best is None else min(best, taken)
-        return best
+    """The least time of three runs, whose first answer has to be one of those that are wanted."""
+    taken, first = gate_run.seconds(program, SCHEMA, data)
+    if not any(code in first for code in wanted):
+        raise SystemExit("not the wanted answer: %r" % first[:200])
+    return taken
 
 
 SCRIPT = """
@@ -67,10 +61,19 @@ console.log(Number(process.hrtime.bigint() - start) / 1e6 / times);
 """
 
 
+def by_graphql_core(text, times):
+    """How long graphql-core takes to parse a text, as the end of a row."""
+    import graphql
+
+    taken = of_calls(lambda: graphql.parse(text), times)
+    return "; graphql-core %s parses it in %.2f ms" % (graphql.__version__, taken)
+
+
 def main():
     parser = argparse.ArgumentParser()
     parser.add_argument("--bin", required=True)
     parser.add_argument("--graphql")
+    parser.add_argument("--graphql-core", action="store_true")
     options = parser.parse_args()
     program = os.path.abspath(options.bin)
     for fields, times in ((2000, 100), (20000, 10)):
@@ -85,7 +88,9 @@ def main():
                 ["node", "-e", SCRIPT, os.path.abspath(options.graphql), str(times)],
                 input=text.encode(), stdout=subprocess.PIPE, check=True)
             row += "; graphql-js parses it in %.2f ms" % float(done.stdout)
-        print(row)
+        if options.graphql_core:
+            row += by_graphql_core(text, max(times // 10, 1))
+        print(row, flush=True)
 
 
 if __name__ == "__main__":

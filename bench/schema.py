@@ -1,19 +1,24 @@
 #!/usr/bin/env python3
 """How long reading a schema takes, over the built program: one of 5,000 types and one of 50,000.
 
-    bench/schema.py --bin PATH [--graphql DIR]
+    bench/schema.py --bin PATH [--graphql DIR] [--graphql-core] [--types COUNT]..
 
 Every fifth type is an interface, an enum, an input object, a union or an object type that implements an
 interface; fields have arguments with defaults, and each input object needs the one before it. The run's
 input is empty, so that it only reads the schema; the time of a run over a schema of one type is taken
-away. Where DIR, the folder of graphql-js 16, is given, its `buildSchema` reads the same text under node.
+away. Times are the processor's, the least of three runs.
+
+Where DIR, the folder of graphql-js 16, is given, its `buildSchema` reads the same text under node. With
+`--graphql-core` graphql-core's `build_schema` reads it in Python, and then `validate_schema` judges it
+too; it has to be where Python finds it. `--types` gives other counts than the two.
 """
 
 import argparse
 import os
 import subprocess
-import tempfile
-import time
+
+from gate_run import seconds
+from processor_time import of_calls
 
 
 def schema(types):
@@ -31,24 +36,6 @@ def schema(types):
     return "\n".join(parts)
 
 
-def seconds(program, text):
-    with tempfile.TemporaryDirectory() as place:
-        names = [os.path.join(place, name) for name in ("schema", "rules", "queue")]
-        with open(names[0], "w") as file:
-            file.write(text)
-        open(names[1], "wb").close()
-        words = ["run", "--schema", names[0], "--rules", names[1], "--queue", names[2]]
-        best = None
-        for _ in range(3):
-            start = time.perf_counter()
-            done = subprocess.run([program] + words, stdin=subprocess.DEVNULL, stdout=subprocess.PIPE)
-            taken = time.perf_counter() - start
-            if done.returncode != 0:
-                raise SystemExit("status %d: %r" % (done.returncode, done.stdout[:200]))
-            best = taken if best is None else min(best, taken)
-        return best
-
-
 SCRIPT = """
 const {buildSchema} = require(process.argv[1]);
 const text = require('fs').readFileSync(0, 'utf8');
@@ -59,22 +46,40 @@ console.log(Number(process.hrtime.bigint() - start) / 1e6);
 """
 
 
+def by_graphql_core(text):
+    """How long graphql-core takes to build a schema, and to judge it too, as the end of a row."""
+    import graphql
+
+    def judged():
+        faults = graphql.validate_schema(graphql.build_schema(text))
+        if faults:
+            raise SystemExit("graphql-core refuses the schema: %s" % faults[0].message)
+
+    cells = of_calls(lambda: graphql.build_schema(text), 1), of_calls(judged, 1)
+    return "; graphql-core %s builds it in %.1f ms, and judges it too in %.1f ms" % (graphql.__version__, *cells)
+
+
 def main():
     parser = argparse.ArgumentParser()
     parser.add_argument("--bin", required=True)
     parser.add_argument("--graphql")
+    parser.add_argument("--graphql-core", action="store_true")
+    parser.add_argument("--types", type=int, action="append")
     options = parser.parse_args()
     program = os.path.abspath(options.bin)
-    empty = seconds(program, "type Query { a: Int }")
-    for types in (5000, 50000):
+    empty, _ = seconds(program, b"type Query { a: Int }")
+    for types in options.types or (5000, 50000):
         text = schema(types)
-        row = "%d types, %d bytes: %.1f ms" % (types, len(text), (seconds(program, text) - empty) * 1000)
+        taken, _ = seconds(program, text.encode())
+        row = "%d types, %d bytes: %.1f ms" % (types, len(text), (taken - empty) * 1000)
         if options.graphql:
             done = subprocess.run(
                 ["node", "-e", SCRIPT, os.path.abspath(options.graphql)],
                 input=text.encode(), stdout=subprocess.PIPE, check=True)
             row += "; graphql-js builds it in %.1f ms" % float(done.stdout)
-        print(row)
+        if options.graphql_core:
+            row += by_graphql_core(text)
+        print(row, flush=True)
 
 
 if __name__ == "__main__":
