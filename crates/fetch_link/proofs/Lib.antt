@@ -1,3 +1,4 @@
+pub mod Cuts
 pub mod Decoding
 pub mod Folds
 pub mod HeadLaws
@@ -5,5 +6,6 @@ pub mod LineCounts
 pub mod Numbers
 pub mod Pieces
 pub mod RequestLaws
+pub mod Staying
 pub mod Tokens
 pub mod Uniqueness

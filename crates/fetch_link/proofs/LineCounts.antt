@@ -1,5 +1,5 @@
 -- How many lines of a head have ended.
-use Rattle.std.proofs.Common.{◌≡◌, ◌≢◌, ℕ, ◌+◌, ◌<◌, ◌≤◌, ◌==◌, Bool, true, false, IsTrue, All, List, [], ◌∷◌, ◌++◌, length, count_by, codes, Option, None, Some, if◌then◌else◌, cond, refl, ap, ap₂, sym, ◌∙◌, subst, arith, append-nil, zero-add}
+use Rattle.std.proofs.Common.{◌≡◌, ◌≢◌, ℕ, ◌+◌, ◌<◌, ◌≤◌, ◌==◌, Bool, true, false, IsTrue, All, List, [], ◌∷◌, ◌++◌, length, codes, Option, None, Some, if◌then◌else◌, cond, refl, ap, ap₂, sym, ◌∙◌, subst, arith, append-nil, zero-add}
 use Rattle.std.proofs.lemmas.Bool.Decides.{nat_tests}
 use Rattle.std.proofs.lemmas.List.Elements.{All-head, All-tail}
 use Rattle.std.proofs.lemmas.List.Sums.{sum_by-cons}

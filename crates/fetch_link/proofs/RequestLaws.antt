@@ -27,7 +27,7 @@ lines_ended-le (b ∷ bytes) =
     ]
 
 -- within a target no line has ended
-in_target : (bytes : List ℕ) → EndsInTarget bytes → lines_ended bytes ≡ 0
+pub in_target : (bytes : List ℕ) → EndsInTarget bytes → lines_ended bytes ≡ 0
 in_target bytes ends =
     let blank = ends.0 in
     let method = ends.1 in
@@ -54,7 +54,7 @@ skip-token (b ∷ method) rest token =
     ap (λ t. if t then skip_empty_lines (method ++ rest) else b ∷ (method ++ rest)) first
 
 -- the lines of a whole head: its start line, its field lines and the empty one
-lines_ended-request : (h : RequestHead) → IsRequestHead h → lines_ended (print_request h) ≡ length h.fields + 2
+pub lines_ended-request : (h : RequestHead) → IsRequestHead h → lines_ended (print_request h) ≡ length h.fields + 2
 lines_ended-request h is =
     let end = print_end h.line_end in
     let section = print_section h.fields h.last ++ [] in

@@ -21,7 +21,7 @@ mod request_head;
 mod response;
 mod serving;
 
-pub use laws::{asked_once, decoded_once};
+pub use laws::{asked_for_good, asked_once, closed_once, decoded_for_good, decoded_once};
 pub use reply::reply_text;
 pub use request::request_text;
 pub use response::{Fetch, Progress};

@@ -79,10 +79,11 @@ pub record Decoded (bytes : List ℕ) (progress : Progress) : Type 0 where
   pub behind : BehindInterim bytes rest
   pub gives : FinalGives rest progress
 
--- what the bytes behind the interim responses come to at the close: F6, unless a final head stands there
+-- what the bytes behind the interim responses come to at the close: F6, where no whole head stands there. That of an
+-- interim response counts too, since what follows it says what the bytes come to.
 abbrev pub ClosedGives : List ℕ → Meaning → Type 0
 ClosedGives bytes meaning =
-    (((head : ResponseHead) (came : List ℕ) → ¬ (IsFinal bytes head came)) × (meaning ≡ bad F6))
+    (((head : ResponseHead) (came : List ℕ) → ¬ (IsWholeResponse bytes head came)) × (meaning ≡ bad F6))
     ⊎ ((head : ResponseHead) × (came : List ℕ) × IsFinal bytes head came × (meaning ≡ closed_body (status_code head) (framing_of head) came))
 
 -- what all the bytes come to where the connection is closed behind them

@@ -60,6 +60,11 @@ fn a_response_comes_to_the_same_in_all_pieces(rt: HostRuntime) -> Result<(), Fai
             "F6",
         ),
         (
+            "HTTP/1.1 100 Continue\r\n\r\nHTTP/1.1 200 OK\r\n\r\n{\"data\":null}",
+            "body",
+        ),
+        ("HTTP/1.1 100 Continue\r\n\r\n", "F6"),
+        (
             "HTTP/1.1 200 OK\nTransfer-Encoding: ChunKed\nContent-Length: 9\n\n5;x=y\r\n{\"dat\r\n0F\r\na\":{\"me\":null}}\r\n0\r\nA: b\r\n\r\n",
             "body",
         ),
