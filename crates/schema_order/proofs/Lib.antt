@@ -1,3 +1,9 @@
+mod BareLiterals
+mod BareRepeats
+mod BareRules
+mod BareSchemas
+mod BareTables
+mod BareVerdict
 mod CircleLaws
 mod FaultLaws
 mod FillsLaws

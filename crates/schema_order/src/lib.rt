@@ -3,7 +3,7 @@
 #![tactic(auto)]
 
 ghost use Rattle.schema_order.specs.Order.{OrderIsFree};
-ghost use Rattle.schema_order.specs.Verdict.{VerdictIsFree};
+ghost use Rattle.schema_order.specs.Verdict.{PlacesAreFree, VerdictIsFree};
 
 use digraph::walks_are_decided;
 
@@ -17,6 +17,14 @@ pub fn order_is_free()
 /// told may differ.
 pub fn verdict_is_free()
     ensures { VerdictIsFree }
+{
+    walks_are_decided();
+}
+
+/// The same for definitions that stand at other places of their texts: their order and their places
+/// don't matter to whether they are accepted, nor to the code that refuses them.
+pub fn places_are_free()
+    ensures { PlacesAreFree }
 {
     walks_are_decided();
 }
