@@ -7,6 +7,7 @@ mod BareVerdict
 mod CircleLaws
 mod FaultLaws
 mod FillsLaws
+mod FilterLaws
 mod FirstLaws
 mod NeedsLaws
 mod NumberLaws
@@ -16,4 +17,5 @@ mod PlaceLaws
 mod RepeatedLaws
 mod RuleLaws
 mod TabledLaws
+mod TextLaws
 mod VerdictLaws
