@@ -297,7 +297,7 @@ module _ (a b : Schema) (found : (name : List ℕ) → entry a.types name ≡ en
   pub fills_moved : WalksAreDecided → has_circle (filling_graph a ones a.types) ≡ true → has_circle (filling_graph b others b.types) ≡ true
   fills_moved decided = moved_circle decided (filling_graph a ones a.types) (filling_graph b others b.types) number step
 
-some_fills : (a : Schema) → is_some (fills_itself_line a) ≡ has_circle (filling_graph a (first_numbers a.types) a.types)
+pub some_fills : (a : Schema) → is_some (fills_itself_line a) ≡ has_circle (filling_graph a (first_numbers a.types) a.types)
 some_fills a =
     some_circled (filling_graph a (first_numbers a.types) a.types) (field_lines a.types) (as_many (default_fills a (first_numbers a.types)) a.types)
 

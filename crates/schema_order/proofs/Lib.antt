@@ -1,6 +1,13 @@
+mod BareLiterals
+mod BareRepeats
+mod BareRules
+mod BareSchemas
+mod BareTables
+mod BareVerdict
 mod CircleLaws
 mod FaultLaws
 mod FillsLaws
+mod FilterLaws
 mod FirstLaws
 mod NeedsLaws
 mod NumberLaws
@@ -10,4 +17,5 @@ mod PlaceLaws
 mod RepeatedLaws
 mod RuleLaws
 mod TabledLaws
+mod TextLaws
 mod VerdictLaws

@@ -76,7 +76,7 @@ pub same_lengths : {X Y Z : Type 0} (f : X → Y) (g : X → Z) (xs : List X) �
 same_lengths f g [] = refl
 same_lengths f g (x ∷ xs) = ap (λ n. suc n) (same_lengths f g xs)
 
-some_needs : (a : Schema) → is_some (needs_itself_line a) ≡ has_circle (needs_graph a a.types)
+pub some_needs : (a : Schema) → is_some (needs_itself_line a) ≡ has_circle (needs_graph a a.types)
 some_needs a = some_circled (needs_graph a a.types) (type_lines a.types) (same_lengths _ _ a.types)
 
 pub both_true : (x y : Bool) → (x ≡ true → y ≡ true) → (y ≡ true → x ≡ true) → x ≡ y

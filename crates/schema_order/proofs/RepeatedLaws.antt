@@ -35,7 +35,7 @@ none_same m (k ∷ ms) e =
     ∙ none_same m ms (omega arith))
     (cases_Bool (bytes_eq m.0 k.0))
 
-once_each : (ms : List Mark) → ((name : List ℕ) → of_name name ms ≤ 1) → repeated ms ≡ None
+pub once_each : (ms : List Mark) → ((name : List ℕ) → of_name name ms ≤ 1) → repeated ms ≡ None
 once_each [] few = refl
 once_each (m ∷ ms) few =
     let step : (name : List ℕ) → of_name name (m ∷ ms) ≡ tick (has_name name m) + of_name name ms = λ name. of_name_cons name m ms in

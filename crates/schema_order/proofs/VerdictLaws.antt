@@ -22,14 +22,14 @@ use Rattle.schema_order.proofs.FillsLaws.{fills_same}
 use Rattle.schema_order.proofs.RuleLaws.{SameParts, either_same, some_unknown, some_misplaced, some_unsatisfied, some_root, some_empty, some_unfit}
 
 -- one code more: both break it, or neither, and then the rest tells
-code_more : (code : ℕ) (a b : Option ℕ) (x y : Option Refusal) → is_some a ≡ is_some b → (a ≡ None → b ≡ None → code_of x ≡ code_of y)
+pub code_more : (code : ℕ) (a b : Option ℕ) (x y : Option Refusal) → is_some a ≡ is_some b → (a ≡ None → b ≡ None → code_of x ≡ code_of y)
     → code_of (option_or (coded code a) x) ≡ code_of (option_or (coded code b) y)
 code_more code None None x y same rest = rest refl refl
 code_more code None (Some m) x y same rest = absurd (false≢true same)
 code_more code (Some l) None x y same rest = absurd (true≢false same)
 code_more code (Some l) (Some m) x y same rest = refl
 
-code_last : (code : ℕ) (a b : Option ℕ) → is_some a ≡ is_some b → code_of (coded code a) ≡ code_of (coded code b)
+pub code_last : (code : ℕ) (a b : Option ℕ) → is_some a ≡ is_some b → code_of (coded code a) ≡ code_of (coded code b)
 code_last code None None same = refl
 code_last code None (Some m) same = absurd (false≢true same)
 code_last code (Some l) None same = absurd (true≢false same)
