@@ -1,7 +1,8 @@
--- How a put answers, and which rows a crash may leave.
+-- How a put answers, and which files a crash may leave.
 use Rattle.std.specs.Prelude.{◌≡◌, ◌⊎◌, ℕ, ◌+◌, ◌-◌, ◌<◌, ◌≤◌, ◌^◌, min, ⊤, List, Result, Ok, Err}
 use Rattle.queue_model.specs.declared.row.Row.{Row}
 use Rattle.queue_model.specs.Queue.{MutationQueue, HasNumber, HasRoom}
+use Rattle.queue_model.specs.QueueFile.{RowsOfFile}
 use Rattle.offline_queue.specs.declared.keeper.PutError.{PutError}
 use Rattle.offline_queue.specs.declared.keeper.PutError.TheVariants.{Memory, Numbers, Full, Failed}
 
@@ -29,6 +30,6 @@ RefusesPut queue need Failed = ⊥
 RefusesPut queue need Numbers = AnswersPut queue need (Err Numbers)
 RefusesPut queue need (Full need' left) = AnswersPut queue need (Err (Full need' left))
 
--- the rows before the call, or those after it
-abbrev pub IsRowsBeforeOrAfter : List Row → List Row → List Row → Type 0
-IsRowsBeforeOrAfter before after rows = (rows ≡ before) ⊎ (rows ≡ after)
+-- the file stands for the rows before the call, or for those after it
+abbrev pub HasRowsBeforeOrAfter : List Row → List Row → List ℕ → Type 0
+HasRowsBeforeOrAfter before after file = RowsOfFile file before ⊎ RowsOfFile file after

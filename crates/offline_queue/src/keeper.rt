@@ -1,9 +1,9 @@
 ghost use Rattle.std.specs.Prelude.{◌≡◌, ℕ, List, IfOk, OnOk};
 ghost use Rattle.fault_causes.specs.Causes.{HasCause, HasCauseOf};
 ghost use Rattle.fault_causes.specs.Crash.{LeavesOnly};
-ghost use Rattle.queue_model.specs.declared.row.Row.{Row};
 ghost use Rattle.queue_model.specs.Queue.{MutationQueue, need_of, queued, completed, IsHeld};
-ghost use Rattle.offline_queue.specs.Keeper.{AnswersPut, IsRefusal, IsRowsBeforeOrAfter};
+ghost use Rattle.queue_model.specs.QueueFile.{RowsOfFile};
+ghost use Rattle.offline_queue.specs.Keeper.{AnswersPut, IsRefusal, HasRowsBeforeOrAfter};
 
 use crate::Rows;
 use gate_outside::Failed;
@@ -55,8 +55,8 @@ pub trait Keeper {
     /// The moment, as a number that doesn't fall.
     ghost moment: { Self → ℕ };
 
-    /// Where it tells, which lists of rows a crash at that moment or later might have left.
-    ghost left_since: { Self → ℕ → List Row → Type 0 };
+    /// Where it tells, which files a crash at that moment or later might have left.
+    ghost left_since: { Self → ℕ → List ℕ → Type 0 };
 
     /// Adds a row at the end, and answers its number. Numbers are tried first, then room, then the
     /// device. Memory is asked for before the device is called.
@@ -70,7 +70,7 @@ pub trait Keeper {
         ensures refused { IsRefusal result → self.new ≡ self.old }
         ensures tells { tells self.old → tells self.new }
         ensures crash { tells self.old → LeavesOnly moment left_since self.old self.new
-            (IsRowsBeforeOrAfter (queue self.old).rows
+            (HasRowsBeforeOrAfter (queue self.old).rows
             (queued (queue self.old) document.now operation.now variables.now).rows) }
         ensures cause { HasCauseOf PutError.Failed (faults self.old) (faults self.new) result };
 
@@ -82,14 +82,14 @@ pub trait Keeper {
         ensures intact { OnOk result (intact self.new) }
         ensures tells { tells self.old → tells self.new }
         ensures crash { tells self.old → LeavesOnly moment left_since self.old self.new
-            (IsRowsBeforeOrAfter (queue self.old).rows (completed (queue self.old) seq).rows) }
+            (HasRowsBeforeOrAfter (queue self.old).rows (completed (queue self.old) seq).rows) }
         ensures cause { HasCause (faults self.old) (faults self.new) result };
 
     /// The rows that are held, in order.
     fn rows(&self) -> Result<Rows, Memory>
         ensures { IfOk result (λ rows. rows ≡ (queue self.now).rows) };
 
-    /// Between two calls a crash leaves the rows that are held.
-    ghost leaves_held: { (keeper : Self) → intact keeper → tells keeper → (rows : List Row)
-        → left_since keeper (moment keeper) rows → rows ≡ (queue keeper).rows };
+    /// Between two calls a crash leaves a file of the rows that are held.
+    ghost leaves_held: { (keeper : Self) → intact keeper → tells keeper → (file : List ℕ)
+        → left_since keeper (moment keeper) file → RowsOfFile file (queue keeper).rows };
 }

@@ -186,9 +186,9 @@ impl Keeper for MemoryKeeper {
 
     ghost moment = { λ k. 0 };
 
-    ghost left_since = { λ k t rows. ⊥ };
+    ghost left_since = { λ k t file. ⊥ };
 
-    ghost leaves_held = { λ k intact tells rows left. absurd tells };
+    ghost leaves_held = { λ k intact tells file left. absurd tells };
 
     fn put(
         &mut self,

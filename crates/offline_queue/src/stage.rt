@@ -4,7 +4,7 @@ ghost use Rattle.fault_causes.specs.Causes.{HasCause};
 ghost use Rattle.fault_causes.specs.Crash.{LeavesOnly};
 ghost use Rattle.queue_model.specs.Queue.{completed, IsHeld};
 ghost use Rattle.stream_core.specs.Exchanges.{OperatedOnto, AnsweredOnto, Onto};
-ghost use Rattle.offline_queue.specs.Keeper.{IsRowsBeforeOrAfter};
+ghost use Rattle.offline_queue.specs.Keeper.{HasRowsBeforeOrAfter};
 ghost use Rattle.offline_queue.specs.Offers.{IsDown, Operates, kind_of, fetch_of};
 ghost use Rattle.offline_queue.specs.Stage.{PutInto, Answers};
 
@@ -43,7 +43,7 @@ impl<K: Keeper> OfflineStage<K> {
         ensures intact { OnOk result (K.intact self.new.keeper) }
         ensures tells { K.tells self.old.keeper → K.tells self.new.keeper }
         ensures crash { K.tells self.old.keeper → LeavesOnly K.moment K.left_since self.old.keeper self.new.keeper
-            (IsRowsBeforeOrAfter (K.queue self.old.keeper).rows (completed (K.queue self.old.keeper) seq).rows) }
+            (HasRowsBeforeOrAfter (K.queue self.old.keeper).rows (completed (K.queue self.old.keeper) seq).rows) }
         ensures cause { HasCause (K.faults self.old.keeper) (K.faults self.new.keeper) result }
         ensures down { self.new.down ≡ self.old.down }
     {

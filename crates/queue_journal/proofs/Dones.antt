@@ -9,9 +9,8 @@ use Rattle.gate_outside.specs.Disk.{IsTorn, IsCutOrWhole, written}
 use Rattle.queue_model.specs.declared.row.Row.{Row}
 use Rattle.queue_model.specs.Queue.{MutationQueue, completed, without, numbers_of, end_with, RiseBetween}
 use Rattle.queue_model.specs.QueueFile.{StoredRow, with_chain, held_rows, last_number, end_of, IsQueueFile, RowsOfFile}
-use Rattle.queue_model.proofs.Chains.{one_list}
 use Rattle.queue_model.proofs.Rises.{without_at, rise_without}
-use Rattle.offline_queue.specs.Keeper.{IsRowsBeforeOrAfter}
+use Rattle.offline_queue.specs.Keeper.{HasRowsBeforeOrAfter}
 use Rattle.queue_journal.specs.Journal.{OpenJournal, IsSettled, Stands}
 use Rattle.queue_journal.specs.Steps.{WhereTold, After}
 use Rattle.queue_journal.proofs.Chains.{Split, split_at_row, with_state, held_without, places_without, last_state, size_state}
@@ -55,24 +54,24 @@ module _ {D : Type 0} (reads : D → Option (List ℕ)) (kept : D → ℕ) (may_
           here = sym place_is ∙ ap (λ (l : List ℕ). get_or l i 0) stands.at ∙ split.place ∙ omega arith;
         }
 
-    abbrev Rows : List Row → Type 0
-    Rows = IsRowsBeforeOrAfter old.queue.rows (without seq old.queue.rows)
+    abbrev Rows : List ℕ → Type 0
+    Rows = HasRowsBeforeOrAfter old.queue.rows (without seq old.queue.rows)
 
     -- the rows of a file whose state byte is torn
-    rows_torn : (file : List ℕ) (f : Found file) (c : List ℕ) (rows : List Row) → IsTorn place 1 file c → RowsOfFile c rows → Rows rows
-    rows_torn file f c rows torn has =
+    rows_torn : (file : List ℕ) (f : Found file) (c : List ℕ) → IsTorn place 1 file c → Rows c
+    rows_torn file f c torn =
         ⊎_elim
-        (λ same. inl (one_list c rows (held_rows f.chain) has same ∙ sym f.stands.rows))
-        (λ less. inr (one_list c rows (remove (held_rows f.chain) i) has less ∙ ap (λ l. remove l i) (sym f.stands.rows) ∙ sym gone))
+        (λ same. inl (subst (RowsOfFile c) (sym f.stands.rows) same))
+        (λ less. inr (subst (RowsOfFile c) (ap (λ l. remove l i) (sym f.stands.rows) ∙ sym gone) less))
         (torn_state file f.chain f.stands.bytes i f.split c (subst (λ (k : ℕ). IsTorn k 1 file c) f.here torn))
 
-    -- the rows that a crash may leave while the state byte is written
+    -- what a crash may leave while the state byte is written
     pub done_crash : (new : OpenJournal D) → ((file : List ℕ) × (reads old.disk ≡ Some file)) → LeavesOnly moment left_since old.disk new.disk (After (IsTorn place 1) (may_leave old.disk))
         → Leaves reads kept may_leave moment left_since only_now old new Rows
     done_crash new tells run =
         let f = found tells.0 tells.1 in
-        lifted reads kept may_leave moment left_since only_now old new _ _ run (λ c rows after has.
-        rows_torn tells.0 f c rows (after_only may_leave moment left_since only_now (IsTorn place 1) (may_leave old.disk) tells.0 c f.only after) has)
+        lifted reads kept may_leave moment left_since only_now old new _ _ run (λ c after.
+        rows_torn tells.0 f c (after_only may_leave moment left_since only_now (IsTorn place 1) (may_leave old.disk) tells.0 c f.only after))
 
     -- the file once the row is done
     pub done_bytes : (file : List ℕ) (f : Found file) → IsQueueFile (written place (1 ∷ []) file) (changed file f.chain f.stands.bytes i f.split 1)
@@ -141,9 +140,9 @@ module _ {D : Type 0} (reads : D → Option (List ℕ)) (kept : D → ℕ) (may_
         lifted reads kept may_leave moment left_since only_now old new
         (λ c. After (IsTorn place 1) (may_leave old.disk) c ⊎ (IsTorn 8 1 later c ⊎ IsCutOrWhole 9 (written 8 (0 ∷ []) later) c)) _
         (joined moment left_since old.disk mid.disk new.disk _ _ _ run (close later told (durable later told)) (λ c h. inl h) (λ c h. inr h))
-        (λ c rows h has. ⊎_elim
-        (λ after. rows_torn tells.0 f c rows (after_only may_leave moment left_since only_now (IsTorn place 1) (may_leave old.disk) tells.0 c f.only after) has)
-        (λ closing_up. inr (one_list c rows [] has (closing.0 c closing_up) ∙ sym none))
+        (λ c h. ⊎_elim
+        (λ after. rows_torn tells.0 f c (after_only may_leave moment left_since only_now (IsTorn place 1) (may_leave old.disk) tells.0 c f.only after))
+        (λ closing_up. inr (subst (RowsOfFile c) (sym none) (closing.0 c closing_up)))
         h)
 
     pub settled_last : (mid new : OpenJournal D) → without seq old.queue.rows ≡ [] → new.queue ≡ completed old.queue seq → new.places ≡ remove old.places i

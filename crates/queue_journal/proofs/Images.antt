@@ -12,9 +12,6 @@ use Rattle.queue_journal.proofs.Chains.{front, split_file, length-front, with_re
 pub closed_file : (chain : List StoredRow) (x : ℕ) (rest : List ℕ) → AreInOrder 0 chain → x ≢ 1 → IsQueueFile (front chain ++ x ∷ rest) chain
 closed_file chain x rest order shut = record { commit = x; remainder = rest; bytes = sym (split_file chain (x ∷ rest)); closed = shut; order = order }
 
-pub rows_of : (c : List ℕ) (chain : List StoredRow) → IsQueueFile c chain → RowsOfFile c (held_rows chain)
-rows_of c chain is = inr (chain, is, refl)
-
 module _ (file : List ℕ) (chain : List StoredRow) (is : IsQueueFile file chain) where
   parts : file ≡ front chain ++ is.commit ∷ is.remainder
   parts = is.bytes ∙ split_file chain (is.commit ∷ is.remainder)

@@ -1,10 +1,9 @@
--- From what a crash leaves of the file to what it leaves of the rows.
+-- From what a crash leaves of a disk to what it leaves of a journal.
 use Rattle.std.proofs.Common.{◌≡◌, inl, inr, ⊎_elim, ℕ, List, Option, Some, None, refl, ◌∙◌, ap, option_map, is_some, true, false, Result, Ok, Err, OnOk}
 use Rattle.fault_causes.specs.Crash.{LeavesOnly}
 use Rattle.fault_causes.proofs.Moments.{started}
-use Rattle.queue_model.specs.declared.row.Row.{Row}
 use Rattle.queue_model.specs.QueueFile.{RowsOfFile}
-use Rattle.queue_journal.specs.Journal.{OpenJournal, IsSettled, LeftRows}
+use Rattle.queue_journal.specs.Journal.{OpenJournal, IsSettled}
 use Rattle.queue_journal.specs.Told.{leaves_held}
 
 pub map_some : {A B : Type 0} (f : A → B) (o : Option A) (y : B) → option_map f o ≡ Some y → (x : A) × (o ≡ Some x) × (y ≡ f x)
@@ -13,23 +12,22 @@ map_some f (Some x) y is = (x, refl, cc)
 
 module _ {D : Type 0} (reads : D → Option (List ℕ)) (kept : D → ℕ) (may_leave : D → List ℕ → Type 0) (moment : D → ℕ) (left_since : D → ℕ → List ℕ → Type 0)
     (only_now : (disk : D) (c : List ℕ) → left_since disk (moment disk) c → may_leave disk c) where
-  abbrev pub Leaves : OpenJournal D → OpenJournal D → (List Row → Type 0) → Type 0
-  Leaves old new Q = LeavesOnly (λ (j : OpenJournal D). moment j.disk) (LeftRows left_since) old new Q
+  abbrev pub Leaves : OpenJournal D → OpenJournal D → (List ℕ → Type 0) → Type 0
+  Leaves old new Q = LeavesOnly (λ (j : OpenJournal D). moment j.disk) (λ (j : OpenJournal D). left_since j.disk) old new Q
 
   -- nothing was called
-  pub stays : (old : OpenJournal D) (Q : List Row → Type 0) → IsSettled reads kept may_leave old → ((file : List ℕ) × (reads old.disk ≡ Some file))
-      → ((rows : List Row) → rows ≡ old.queue.rows → Q rows) → Leaves old old Q
+  pub stays : (old : OpenJournal D) (Q : List ℕ → Type 0) → IsSettled reads kept may_leave old → ((file : List ℕ) × (reads old.disk ≡ Some file))
+      → ((c : List ℕ) → RowsOfFile c old.queue.rows → Q c) → Leaves old old Q
   stays old Q settled tells from =
-      started (λ (j : OpenJournal D). moment j.disk) (LeftRows left_since) old Q (λ rows left. from rows (leaves_held reads kept may_leave moment left_since only_now old settled tells rows left))
+      started (λ (j : OpenJournal D). moment j.disk) (λ (j : OpenJournal D). left_since j.disk) old Q (λ c left. from c (leaves_held reads kept may_leave moment left_since only_now old settled tells c left))
 
-  -- the rows of the files that the disk might leave
-  pub lifted : (old new : OpenJournal D) (P : List ℕ → Type 0) (Q : List Row → Type 0) → LeavesOnly moment left_since old.disk new.disk P
-      → ((c : List ℕ) (rows : List Row) → P c → RowsOfFile c rows → Q rows) → Leaves old new Q
+  -- the files that the disk might leave
+  pub lifted : (old new : OpenJournal D) (P Q : List ℕ → Type 0) → LeavesOnly moment left_since old.disk new.disk P → ((c : List ℕ) → P c → Q c) → Leaves old new Q
   lifted old new P Q run from = record {
     later = run.later;
-    each = λ rows left. from left.0 rows (run.each left.0 left.1) left.2;
-    before = λ t rows le left. ⊎_elim (λ past. inl (left.0, past, left.2)) (λ p. inr (from left.0 rows p left.2)) (run.before t left.0 le left.1);
-    keeps = λ t rows le left. (left.0, run.keeps t left.0 le left.1, left.2);
+    each = λ c left. from c (run.each c left);
+    before = λ t c le left. ⊎_elim (λ past. inl past) (λ p. inr (from c p)) (run.before t c le left);
+    keeps = run.keeps;
   }
 
 -- what tells goes on telling

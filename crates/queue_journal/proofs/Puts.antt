@@ -4,16 +4,15 @@ use Rattle.std.specs.List.{All}
 use Rattle.std.proofs.lemmas.List.Elements.{All-push, All-weaker}
 use Rattle.fault_causes.specs.Crash.{Only, LeavesOnly}
 use Rattle.gate_outside.specs.Disk.{IsTorn, written}
-use Rattle.queue_model.specs.declared.row.Row.{Row}
 use Rattle.queue_model.specs.Queue.{MutationQueue, need_of, queued, HasNumber, HasRoom, RiseBetween}
-use Rattle.queue_model.specs.QueueFile.{StoredRow, with_record, with_chain, held_rows, last_number, end_of, RowsOfFile, IsQueueFile}
-use Rattle.queue_model.proofs.Chains.{one_list, length-with_record}
+use Rattle.queue_model.specs.QueueFile.{StoredRow, with_record, with_chain, last_number, end_of, RowsOfFile, IsQueueFile}
+use Rattle.queue_model.proofs.Chains.{length-with_record}
 use Rattle.queue_model.proofs.Rises.{rise_push}
-use Rattle.offline_queue.specs.Keeper.{IsRowsBeforeOrAfter}
+use Rattle.offline_queue.specs.Keeper.{HasRowsBeforeOrAfter}
 use Rattle.queue_journal.specs.Journal.{OpenJournal, IsSettled, held_record, state_places}
 use Rattle.queue_journal.specs.Steps.{WhereTold}
 use Rattle.queue_journal.proofs.Chains.{Follows, held_append, places_append, places_first, last_push, with_chain_more, with_chain_append}
-use Rattle.queue_journal.proofs.Images.{rows_of, torn_record, torn_commit, put_file}
+use Rattle.queue_journal.proofs.Images.{torn_record, torn_commit, put_file}
 use Rattle.queue_journal.proofs.Kept.{Leaves, lifted, map_some}
 
 -- the texts can stand in a record of a queue with number and room
@@ -48,23 +47,22 @@ module _ {D : Type 0} (reads : D → Option (List ℕ)) (kept : D → ℕ) (may_
     pub put_crash : ((file : List ℕ) × (reads old.disk ≡ Some file))
         → WhereTold (reads old.disk) (λ file. Only file (may_leave old.disk) → LeavesOnly moment left_since old.disk new.disk
         (λ c. IsTorn old.queue.end (length bytes) file c ⊎ IsTorn (old.queue.end - 1) 1 (written old.queue.end bytes file) c))
-        → Leaves reads kept may_leave moment left_since only_now old new (IsRowsBeforeOrAfter old.queue.rows (queued old.queue document operation variables).rows)
+        → Leaves reads kept may_leave moment left_since only_now old new (HasRowsBeforeOrAfter old.queue.rows (queued old.queue document operation variables).rows)
     put_crash tells run =
         let file = tells.0 in
         let told = settled.told file tells.1 in
         let chain = told.0.0 in
         let stands = told.0.1 in
         let next = follows old.queue document operation variables settled.limit can (last_number 0 chain) stands.greatest in
-        let before : (c : List ℕ) (rows : List Row) → IsQueueFile c chain → RowsOfFile c rows → rows ≡ old.queue.rows =
-        λ c rows is has. one_list c rows (held_rows chain) has (rows_of c chain is) ∙ sym stands.rows in
-        let after : (c : List ℕ) (rows : List Row) → IsQueueFile c (chain ++ s ∷ []) → RowsOfFile c rows → rows ≡ old.queue.rows ++ s.row ∷ [] =
-        λ c rows is has. one_list c rows (held_rows (chain ++ s ∷ [])) has (rows_of c (chain ++ s ∷ []) is) ∙ held_append chain (s ∷ []) ∙ ap (λ l. l ++ s.row ∷ []) (sym stands.rows) in
-        lifted reads kept may_leave moment left_since only_now old new _ _ (run file tells.1 told.1) (λ c rows torn has. ⊎_elim
-        (λ behind. inl (before c rows (torn_record file chain stands.bytes (length bytes) c (subst (λ (k : ℕ). IsTorn k (length bytes) file c) stands.end behind)) has))
+        let before : (c : List ℕ) → IsQueueFile c chain → RowsOfFile c old.queue.rows = λ c is. inr (chain, is, stands.rows) in
+        let after : (c : List ℕ) → IsQueueFile c (chain ++ s ∷ []) → RowsOfFile c (old.queue.rows ++ s.row ∷ []) =
+        λ c is. inr (chain ++ s ∷ [], is, ap (λ l. l ++ s.row ∷ []) stands.rows ∙ sym (held_append chain (s ∷ []))) in
+        lifted reads kept may_leave moment left_since only_now old new _ _ (run file tells.1 told.1) (λ c torn. ⊎_elim
+        (λ behind. inl (before c (torn_record file chain stands.bytes (length bytes) c (subst (λ (k : ℕ). IsTorn k (length bytes) file c) stands.end behind))))
         (λ commit.
         let at_end = subst (λ (k : ℕ). IsTorn (k - 1) 1 (written k bytes file) c) stands.end commit in
         let spelled_out = subst (λ (l : List ℕ). IsTorn (end_of chain - 1) 1 (written (end_of chain) l file) c) spelled at_end in
-        ⊎_elim (λ is. inl (before c rows is has)) (λ is. inr (after c rows is has)) (torn_commit file chain stands.bytes s next c spelled_out))
+        ⊎_elim (λ is. inl (before c is)) (λ is. inr (after c is)) (torn_commit file chain stands.bytes s next c spelled_out))
         torn)
 
     -- the journal is settled again
@@ -115,7 +113,7 @@ module _ {D : Type 0} (reads : D → Option (List ℕ)) (kept : D → ℕ) (may_
       pub put_crash_at : ((file : List ℕ) × (reads old.disk ≡ Some file))
           → WhereTold (reads disk) (λ file. Only file (may_leave disk) → LeavesOnly moment left_since disk new.disk
           (λ c. IsTorn end (length bytes) file c ⊎ IsTorn (end - 1) 1 (written end bytes file) c))
-          → Leaves reads kept may_leave moment left_since only_now old new (IsRowsBeforeOrAfter old.queue.rows (queued old.queue document operation variables).rows)
+          → Leaves reads kept may_leave moment left_since only_now old new (HasRowsBeforeOrAfter old.queue.rows (queued old.queue document operation variables).rows)
       put_crash_at tells run =
           let at_disk = subst (λ (d : D). WhereTold (reads d) (λ file. Only file (may_leave d) → LeavesOnly moment left_since d new.disk
           (λ c. IsTorn end (length bytes) file c ⊎ IsTorn (end - 1) 1 (written end bytes file) c))) disk_is run in

@@ -4,14 +4,15 @@ use Rattle.std.specs.List.{All}
 use Rattle.std.proofs.lemmas.List.{nil_from_length}
 use Rattle.std.proofs.lemmas.List.Elements.{All-nil}
 use Rattle.fault_causes.specs.Crash.{Only, LeavesOnly}
+use Rattle.fault_causes.proofs.Moments.{weakened}
 use Rattle.gate_outside.specs.Disk.{IsTorn, IsCutOrWhole, written}
 use Rattle.queue_model.specs.Queue.{MutationQueue, RiseBetween}
 use Rattle.queue_model.specs.QueueFile.{magic, StoredRow, with_chain, held_rows, end_of, IsQueueFile, RowsOfFile}
-use Rattle.queue_model.proofs.Chains.{one_list, length-with_record}
+use Rattle.queue_model.proofs.Chains.{length-with_record}
 use Rattle.queue_journal.specs.Journal.{OpenJournal, IsSettled}
 use Rattle.queue_journal.specs.Steps.{WhereTold, After}
 use Rattle.queue_journal.proofs.Images.{torn_close, torn_cut, cut_file, empty_chain, no_rows}
-use Rattle.queue_journal.proofs.Kept.{Leaves, lifted, map_some}
+use Rattle.queue_journal.proofs.Kept.{map_some}
 use Rattle.queue_journal.proofs.Runs.{after_only}
 
 -- a chain with a record ends behind 9
@@ -68,15 +69,13 @@ module _ {D : Type 0} (reads : D → Option (List ℕ)) (kept : D → ℕ) (may_
 
     -- the cut of a closed file leaves no row
     pub reset_crash : (file : List ℕ) → reads old.disk ≡ Some file → LeavesOnly moment left_since old.disk new.disk (After (IsCutOrWhole 9) (may_leave old.disk))
-        → Leaves reads kept may_leave moment left_since only_now old new (λ rows. rows ≡ [])
+        → LeavesOnly moment left_since old.disk new.disk (λ c. RowsOfFile c [])
     reset_crash file told run =
         let is = closed file told in
-        lifted reads kept may_leave moment left_since only_now old new _ _ run (λ c rows after has.
-        let cut = after_only may_leave moment left_since only_now (IsCutOrWhole 9) (may_leave old.disk) file c (settled.told file told).1 after in
-        one_list c rows [] has (⊎_elim
+        weakened moment left_since old.disk new.disk (After (IsCutOrWhole 9) (may_leave old.disk)) (λ c. RowsOfFile c []) run (λ c after. ⊎_elim
         (λ whole. no_rows c (subst (λ f. IsQueueFile f []) (sym whole) is))
         (λ shorter. no_rows c (subst (λ f. IsQueueFile f []) (sym (shorter ∙ ap (take 9) is.bytes)) (empty_chain is.commit [] is.closed)))
-        cut))
+        (after_only may_leave moment left_since only_now (IsCutOrWhole 9) (may_leave old.disk) file c (settled.told file told).1 after))
 
     pub settled_reset : new.queue ≡ old.queue → new.places ≡ old.places → reads new.disk ≡ option_map (take 9) (reads old.disk) → kept new.disk ≡ 9
         → WhereTold (reads new.disk) (λ file. Only file (may_leave new.disk)) → IsSettled reads kept may_leave new

@@ -1,9 +1,8 @@
 -- What an open journal holds, and how this stands to the file on its disk.
 use Rattle.std.specs.Prelude.{◌≡◌, ℕ, ◌+◌, ◌<◌, ◌≤◌, List, [], ◌∷◌, Option, length, All, if◌then◌else◌, ◌==◌}
 use Rattle.fault_causes.specs.Crash.{Only}
-use Rattle.queue_model.specs.declared.row.Row.{Row}
 use Rattle.queue_model.specs.Queue.{MutationQueue, RiseBetween}
-use Rattle.queue_model.specs.QueueFile.{StoredRow, with_record, held_rows, last_number, end_of, IsQueueFile, RowsOfFile}
+use Rattle.queue_model.specs.QueueFile.{StoredRow, with_record, held_rows, last_number, end_of, IsQueueFile}
 use Rattle.queue_journal.specs.Steps.{WhereTold}
 
 -- the disk, the queue, and the place of the state byte of each row
@@ -43,7 +42,3 @@ pub record IsSettled {D : Type 0} (reads : D → Option (List ℕ)) (kept : D �
   pub inside : All (λ place. place < journal.queue.end) journal.places
   pub told : WhereTold (reads journal.disk) (λ file.
       ((chain : List StoredRow) × Stands file chain journal.queue journal.places) × Only file (may_leave journal.disk))
-
--- a crash since a moment might have left a file of these rows
-abbrev pub LeftRows : {D : Type 0} → (D → ℕ → List ℕ → Type 0) → OpenJournal D → ℕ → List Row → Type 0
-LeftRows left_since journal t rows = (c : List ℕ) × left_since journal.disk t c × RowsOfFile c rows

@@ -38,8 +38,8 @@ impl<D: Disk> Model for Journal<D> {
 }
 
 impl<D: Disk> Journal<D> {
-    ghost use Rattle.queue_model.specs.QueueFile.{QueueOfFile};
-    ghost use Rattle.queue_journal.specs.Journal.{IsSettled, LeftRows};
+    ghost use Rattle.queue_model.specs.QueueFile.{RowsOfFile, QueueOfFile};
+    ghost use Rattle.queue_journal.specs.Journal.{IsSettled};
     ghost use Rattle.queue_journal.specs.Opening.{WasOrSame, IsForeign};
     ghost use Rattle.queue_journal.specs.Opened.{disk_after};
     ghost use Rattle.queue_journal.specs.Steps.{WhereTold};
@@ -84,7 +84,7 @@ impl<D: Disk> Journal<D> {
         ensures queue { self.new.queue ≡ self.old.queue }
         ensures intact { OnOk result (IsSettled D.reads D.kept D.may_leave self.new) }
         ensures crash { (file : List ℕ) → D.reads self.old.disk ≡ Some file
-            → LeavesOnly (λ j. D.moment j.disk) (LeftRows D.left_since) self.old self.new (λ rows. rows ≡ []) }
+            → LeavesOnly D.moment D.left_since self.old.disk self.new.disk (λ c. RowsOfFile c []) }
         ensures cause { HasCause (D.faults self.old.disk) (D.faults self.new.disk) result }
     {
         cut_synced(&mut self.disk, 9)
@@ -124,7 +124,7 @@ impl<D: Disk> Journal<D> {
 }
 
 impl<D: Disk> Keeper for Journal<D> {
-    ghost use Rattle.queue_journal.specs.Journal.{IsSettled, LeftRows};
+    ghost use Rattle.queue_journal.specs.Journal.{IsSettled};
     ghost use Rattle.queue_journal.specs.Told.{leaves_held};
 
     ghost queue = { λ j. j.queue };
@@ -137,9 +137,9 @@ impl<D: Disk> Keeper for Journal<D> {
 
     ghost moment = { λ j. D.moment j.disk };
 
-    ghost left_since = { λ j t rows. LeftRows D.left_since j t rows };
+    ghost left_since = { λ j t file. D.left_since j.disk t file };
 
-    ghost leaves_held = { λ j intact tells rows left. leaves_held D.reads D.kept D.may_leave D.moment D.left_since D.only_now j intact tells rows left };
+    ghost leaves_held = { λ j intact tells file left. leaves_held D.reads D.kept D.may_leave D.moment D.left_since D.only_now j intact tells file left };
 
     fn put(
         &mut self,

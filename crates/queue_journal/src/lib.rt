@@ -3,10 +3,10 @@
 //! `queue_model` for the queue file, on `gate_outside` for the disk, on `text_types`, and on
 //! `fault_causes` for the words on faults and crashes.
 //!
-//! Its contract for the layer above is that of [`Journal`]: it is a keeper whose crash lists are the
-//! rows of the files that its disk might leave. Behind the last record a closed commit byte stands on
+//! Its contract for the layer above is that of [`Journal`]: it is a keeper, and what a crash might leave
+//! of it are the files that its disk might leave. Behind the last record a closed commit byte stands on
 //! the disk before anything is written behind it, and it is opened by a write of its own after a sync,
-//! so a crash leaves the rows before a call or those after it.
+//! so each file that a crash leaves opens to the rows before a call or to those after it.
 #![tactic(auto)]
 
 mod bytes;

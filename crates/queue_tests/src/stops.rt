@@ -129,14 +129,14 @@ fn assert_opens<D: Disk + Drop>(
     }
 }
 
-/// A new opening finds the same rows again, wherever it was stopped.
+/// A new opening finds the same rows again, wherever it was stopped, and where it went on to its end.
 fn assert_opens_again(
     rt: &impl Abort,
     alloc: Global,
     opened: &MemoryDisk,
     numbers: &[u64],
 ) -> Result<(), Memory> {
-    for count in 0..opened.changes() {
+    for count in 0..=opened.changes() {
         for tear in &TEARS {
             let image = opened.image(alloc, count, *tear)?;
             assert_opens(rt, alloc, memory_disk(alloc, image)?, numbers)?;

@@ -8,16 +8,16 @@ use Rattle.queue_journal.proofs.journal.JournalKeeper.put.Goals as goal
 
 pub returns-in_err-next-clause-crash : goal.returns-in_err-next-clause-crash
 returns-in_err-next-clause-crash g c tells =
-    stays g.D.Disk.reads g.D.Disk.kept g.D.Disk.may_leave g.D.Disk.moment g.D.Disk.left_since g.met.D.Disk.only_now c.args.self.now _ c.requires tells (λ rows same. inl same)
+    stays g.D.Disk.reads g.D.Disk.kept g.D.Disk.may_leave g.D.Disk.moment g.D.Disk.left_since g.met.D.Disk.only_now c.args.self.now _ c.requires tells (λ c has. inl has)
 
 pub returns-in_err-record-clause-crash : goal.returns-in_err-record-clause-crash
 returns-in_err-record-clause-crash g c tells =
-    stays g.D.Disk.reads g.D.Disk.kept g.D.Disk.may_leave g.D.Disk.moment g.D.Disk.left_since g.met.D.Disk.only_now c.args.self.now _ c.requires tells (λ rows same. inl same)
+    stays g.D.Disk.reads g.D.Disk.kept g.D.Disk.may_leave g.D.Disk.moment g.D.Disk.left_since g.met.D.Disk.only_now c.args.self.now _ c.requires tells (λ c has. inl has)
 
 pub returns-in_err-take_in-clause-crash : goal.returns-in_err-take_in-clause-crash
 returns-in_err-take_in-clause-crash g c tells =
     rw c.in_err-take_in.ensures.err
-    (stays g.D.Disk.reads g.D.Disk.kept g.D.Disk.may_leave g.D.Disk.moment g.D.Disk.left_since g.met.D.Disk.only_now c.args.self.now _ c.requires tells (λ rows same. inl same))
+    (stays g.D.Disk.reads g.D.Disk.kept g.D.Disk.may_leave g.D.Disk.moment g.D.Disk.left_since g.met.D.Disk.only_now c.args.self.now _ c.requires tells (λ c has. inl has))
 
 pub returns-in_err-take_in-clause-tells : goal.returns-in_err-take_in-clause-tells
 returns-in_err-take_in-clause-tells g c tells = (tells.0, c.take_in.ensures.told ∙ tells.1)
