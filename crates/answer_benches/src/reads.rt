@@ -4,7 +4,7 @@ ghost use Rattle.std.specs.Prelude.{◌≡◌, ◌<◌};
 ghost use Rattle.checked_operation.specs.Acceptance.{IsWhole};
 
 use crate::parses::{answer_of, per_turn};
-use crate::query::operation;
+use crate::query::{operation, variables};
 use crate::stop::Stop;
 use crate::types::Types;
 use crate::writes::written;
@@ -13,7 +13,6 @@ use checked_operation::Checked;
 use entity_keys::Steps;
 use layer_store::Store;
 use partial_reader::{Reading, read};
-use schema_model::Table;
 use std::alloc::Global;
 use std::marker::Brand;
 use std::sync::ledger::{Blank, Ledger};
@@ -57,7 +56,7 @@ fn readings<L: Ledger>(
     requires some { 0 < blank.parts }
 {
     let alloc = rt.alloc();
-    let variables = Table::new(alloc);
+    let variables = variables(alloc)?;
     let mut steps = Steps::<L>::new(blank);
     let mut right = true;
     let start = Instant::now(rt)?;

@@ -9,7 +9,7 @@ use std::alloc::Global;
 
 /// The schema of the todos.
 const TODOS: &str =
-    "type Query{todos:[Todo!]!} type Todo{id:ID! text:String! done:Boolean! author:User} type User{id:ID! name:String!}";
+    "type Query{todo(id:ID!):Todo todos:[Todo!]!} type Todo{id:ID! text:String! done:Boolean! author:User} type User{id:ID! name:String! nick:String}";
 
 /// A schema with the values of its defaults.
 #[derive(Drop)]

@@ -6,7 +6,7 @@ ghost use Rattle.checked_operation.specs.Acceptance.{IsWhole};
 ghost use Rattle.result_writer.specs.Views.{IsAsSent};
 
 use crate::parses::{answer_of, per_turn};
-use crate::query::operation;
+use crate::query::{operation, variables};
 use crate::stop::Stop;
 use crate::types::Types;
 use cache_model::Writes;
@@ -45,7 +45,7 @@ pub(crate) fn written(
 ) -> Result<Writes, Stop>
     requires { IsWhole operation.now }
 {
-    let variables = Table::new(alloc);
+    let variables = variables(alloc)?;
     let fronts = fronts(alloc, &types.schema, &operation.document)?;
     let asking = as_sent(alloc, types, operation, &variables, fronts.as_slice())?;
     match writes_of(alloc, &asking, &KeyRules::new(alloc), answer, errors) {
