@@ -1,10 +1,11 @@
 #!/usr/bin/env python3
-"""How long it takes to parse, write and read the answer to a query of many todos, and how that grows.
+"""How long it takes to parse, write and read the answer to a page of many todos, and how that grows.
 
     (cd crates/answer_benches && rt run)
     bench/answers.py --bin crates/answer_benches/out/answer_benches [--instructions]
 
-The forms are `json` (parsing the bytes as JSON alone), `answer` (parsing them as an answer with its errors),
+The page asks for the todos by fragments and for one todo by a variable; each text has 200 letters, and all todos
+have one author. The forms are `json` (parsing the bytes as JSON alone), `answer` (parsing them as an answer with its errors),
 `write` (finding the writes of the parsed answer) and `read` (reading the whole answer from the base of a
 store). Each is measured at 200, 2,000 and 20,000 todos. The growth is what a turn takes beside a turn with a
 tenth of the todos; a linear form has about 10, and at most 12 is wanted of `write` and `read`. The last column
