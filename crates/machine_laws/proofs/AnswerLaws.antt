@@ -48,13 +48,16 @@ module _ {O : Type 0} where
         answered = a.answered;
       }
 
+  pub closed_concluded : (place : ℕ) (c : Content) (m : Meaning O) (change : Change O) → IsClosed place c change.state → IsClosed place c (concluded m change).state
+  closed_concluded place c m change a = kept_by_what_follows (λ h f ms n. IsClosedIn place c h f ms) (λ h f ms n key operation b. closed_query place c h f ms n key operation b) m change a
+
   -- a final content at a place for which nothing is open
   abbrev Ends : ℕ → GatewayState O → Type 0
   Ends place s = (c : Content) × (c.finished ≡ true) × IsClosed place c s
 
   ends_concluded : (place : ℕ) (m : Meaning O) (change : Change O) → Ends place change.state → Ends place (concluded m change).state
   ends_concluded place m change e =
-      (e.0, e.1, kept_by_what_follows (λ h f ms n. IsClosedIn place e.0 h f ms) (λ h f ms n key operation a. closed_query place e.0 h f ms n key operation a) m change e.2)
+      (e.0, e.1, closed_concluded place e.0 m change e.2)
 
   -- the ticket was drawn, and nothing is open for it once its mutation is over
   record IsFree (pending : PendingMutation O) (s : GatewayState O) : Type 0 where

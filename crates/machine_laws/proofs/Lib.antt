@@ -5,3 +5,5 @@ pub mod TicketLaws
 pub mod AnswerLaws
 pub mod EndingLaws
 pub mod WeightLaws
+pub mod ApartLaws
+pub mod ClosingLaws

@@ -1,5 +1,6 @@
 -- Lists whose numbers ascend, or are single.
-use Rattle.std.proofs.Common.{◌≡◌, ◌≢◌, ℕ, suc, ◌<◌, ◌≤◌, ◌==◌, ◌||◌, Bool, true, false, cond, List, [], ◌∷◌, ◌++◌, map, filter, find, Option, Some, None, refl, sym, subst, arith, true-eqb, true≢false}
+use Rattle.std.proofs.Common.{◌≡◌, ◌≢◌, ℕ, suc, ◌<◌, ◌≤◌, ◌==◌, ◌||◌, Bool, true, false, not, cond, List, [], ◌∷◌, ◌++◌, map, filter, find, Option, Some, None, is_none, unwrap_or, refl, sym, ap, ◌∙◌, subst, arith, true-eqb, false-eqb, true≢false}
+use Rattle.std.proofs.lemmas.Bool.{eq-eqb}
 use Rattle.std.specs.List.{list_any, AllByRecursion}
 use Rattle.machine_laws.specs.Tickets.{Ascend, AreSingle}
 
@@ -81,11 +82,11 @@ ascend_among number among test (x ∷ xs) low a =
     subst (Ascend number low) (sym (filter_cond among (test x) x (filter test xs)))
     (among_cond number low (test x) (among x) x (filter among xs) (filter among (filter test xs)) (ascend_among number among test xs) a)
 
-or_split : (a b : Bool) → (a || b) ≡ false → (a ≡ false) × (b ≡ false)
+pub or_split : (a b : Bool) → (a || b) ≡ false → (a ≡ false) × (b ≡ false)
 or_split true b h = absurd (true≢false h)
 or_split false b h = (refl, h)
 
-or_join : (a b : Bool) → a ≡ false → b ≡ false → (a || b) ≡ false
+pub or_join : (a b : Bool) → a ≡ false → b ≡ false → (a || b) ≡ false
 or_join true b x y = absurd (true≢false x)
 or_join false b x y = y
 
@@ -99,7 +100,7 @@ any_cond : {X : Type 0} (f : X → Bool) (b : Bool) (x : X) (ys : List X) → f 
 any_cond f true x ys a h = or_join (f x) (list_any f ys) a h
 any_cond f false x ys a h = h
 
-any_filter : {X : Type 0} (f test : X → Bool) (xs : List X) → list_any f xs ≡ false → list_any f (filter test xs) ≡ false
+pub any_filter : {X : Type 0} (f test : X → Bool) (xs : List X) → list_any f xs ≡ false → list_any f (filter test xs) ≡ false
 any_filter f test [] a = refl
 any_filter f test (x ∷ xs) a =
     let s = or_split (f x) (list_any f xs) a in
@@ -133,3 +134,139 @@ none_above number high [] a = refl
 none_above number high (x ∷ xs) a =
     let apart : number x ≢ suc high = λ e. omega (arith, a.0, e) in
     or_join (number x == suc high) (list_any (λ y. number y == suc high) xs) (differs (number x) (suc high) apart) (none_above number high xs a.1)
+
+-- ---- the one that is found
+
+pub some_is : {X : Type 0} (x y : X) → Some x ≡ Some y → x ≡ y
+some_is x y e = ap (λ o. unwrap_or o x) e
+
+pub all_both : {X : Type 0} (P Q : X → Type 0) (xs : List X) → AllByRecursion P xs → AllByRecursion Q xs → AllByRecursion (λ x. P x × Q x) xs
+all_both P Q [] a b = tt
+all_both P Q (x ∷ xs) a b = ((a.0, b.0), all_both P Q xs a.1 b.1)
+
+pub none_all : {X : Type 0} (f : X → Bool) (xs : List X) → list_any f xs ≡ false → AllByRecursion (λ x. f x ≡ false) xs
+none_all f [] a = tt
+none_all f (x ∷ xs) a =
+    let s = or_split (f x) (list_any f xs) a in
+    (s.0, none_all f xs s.1)
+
+pub all_none : {X : Type 0} (f : X → Bool) (xs : List X) → AllByRecursion (λ x. f x ≡ false) xs → list_any f xs ≡ false
+all_none f [] a = refl
+all_none f (x ∷ xs) a = or_join (f x) (list_any f xs) a.0 (all_none f xs a.1)
+
+passed_cond : {X : Type 0} (Q : X → Type 0) (test : X → Bool) (x : X) (ys : List X) (b : Bool) → test x ≡ b → (test x ≡ true → Q x) → AllByRecursion Q ys → AllByRecursion Q (cond b (x ∷ ys) ys)
+passed_cond Q test x ys true e q a = (q e, a)
+passed_cond Q test x ys false e q a = a
+
+-- what passes the test of a filter
+pub all_passed : {X : Type 0} (P Q : X → Type 0) (test : X → Bool) → ((x : X) → P x → test x ≡ true → Q x) → (xs : List X) → AllByRecursion P xs → AllByRecursion Q (filter test xs)
+all_passed P Q test k [] a = tt
+all_passed P Q test k (x ∷ xs) a = passed_cond Q test x (filter test xs) (test x) refl (k x a.0) (all_passed P Q test k xs a.1)
+
+passes_cond : {X : Type 0} (test : X → Bool) (y x : X) (rest : Option X) (b : Bool) → test y ≡ b → (rest ≡ Some x → test x ≡ true) → cond b (Some y) rest ≡ Some x → test x ≡ true
+passes_cond test y x rest true passes k is = subst (λ z. test z ≡ true) (some_is y x is) passes
+passes_cond test y x rest false passes k is = k is
+
+pub found_passes : {X : Type 0} (test : X → Bool) (xs : List X) (x : X) → find test xs ≡ Some x → test x ≡ true
+found_passes test [] x e = absurd (true≢false (ap is_none e))
+found_passes test (y ∷ ys) x e = passes_cond test y x (find test ys) (test y) refl (found_passes test ys x) e
+
+pub found_any : {X : Type 0} (f test : X → Bool) (xs : List X) (x : X) → find test xs ≡ Some x → f x ≡ true → list_any f xs ≡ true
+found_any f test xs x found passes = by_test (list_any f xs) refl
+  where
+    by_test : (b : Bool) → list_any f xs ≡ b → b ≡ true
+    by_test true e = refl
+    by_test false e = absurd (true≢false (sym passes ∙ found_one (λ y. f y ≡ false) test xs x found (none_all f xs e)))
+
+alone_cond : {X : Type 0} (number : X → ℕ) (test : X → Bool) (y : X) (ys : List X) (x : X) (b : Bool) → AreSingle number (y ∷ ys)
+    → (find test ys ≡ Some x → AllByRecursion (λ z. number z ≡ number x → z ≡ x) ys)
+    → cond b (Some y) (find test ys) ≡ Some x → AllByRecursion (λ z. number z ≡ number x → z ≡ x) (y ∷ ys)
+alone_cond number test y ys x true a k is =
+    let same : y ≡ x = some_is y x is in (
+      (λ s. same),
+      all_weaker (λ z. (number y == number z) ≡ false) (λ z. number z ≡ number x → z ≡ x)
+          (λ z n s. absurd (false-eqb (number y) (number z) (sym n) (ap number same ∙ sym s))) ys (none_all (λ z. number y == number z) ys a.0),
+    )
+alone_cond number test y ys x false a k is =
+    let apart = found_one (λ z. (number y == number z) ≡ false) test ys x is (none_all (λ z. number y == number z) ys a.0) in
+    ((λ s. absurd (false-eqb (number y) (number x) (sym apart) s)), k is)
+
+-- of things with single numbers only the one that is found has its number
+pub found_alone : {X : Type 0} (number : X → ℕ) (test : X → Bool) (xs : List X) (x : X) → AreSingle number xs → find test xs ≡ Some x → AllByRecursion (λ y. number y ≡ number x → y ≡ x) xs
+found_alone number test [] x a e = tt
+found_alone number test (y ∷ ys) x a e = alone_cond number test y ys x (test y) a (found_alone number test ys x a.1) e
+
+pub ascend_above : {X : Type 0} (number : X → ℕ) (low : ℕ) (xs : List X) → Ascend number low xs → AllByRecursion (λ x. low < number x) xs
+ascend_above number low [] a = tt
+ascend_above number low (x ∷ xs) a = (a.0, all_weaker (λ y. number x < number y) (λ y. low < number y) (λ y l. omega (arith, l, a.0)) xs (ascend_above number (number x) xs a.1))
+
+pub ascend_single : {X : Type 0} (number : X → ℕ) (low : ℕ) (xs : List X) → Ascend number low xs → AreSingle number xs
+ascend_single number low [] a = tt
+ascend_single number low (x ∷ xs) a = (
+  all_none (λ y. number x == number y) xs
+      (all_weaker (λ y. number x < number y) (λ y. (number x == number y) ≡ false) (λ y l. differs (number x) (number y) (λ e. omega (arith, l, e))) xs (ascend_above number (number x) xs a.1)),
+  ascend_single number (number x) xs a.1,
+)
+
+-- ---- whether one has a number
+
+pub any_last : {X : Type 0} (f : X → Bool) (xs : List X) (x : X) → f x ≡ true → list_any f (xs ++ x ∷ []) ≡ true
+any_last f [] x e = ap (λ b. b || false) e
+any_last f (y ∷ xs) x e = either (f y) (list_any f (xs ++ x ∷ [])) (any_last f xs x e)
+  where
+    either : (a b : Bool) → b ≡ true → (a || b) ≡ true
+    either true b h = refl
+    either false b h = h
+
+pub any_push_same : {X : Type 0} (f : X → Bool) (xs : List X) (x : X) → f x ≡ false → list_any f (xs ++ x ∷ []) ≡ list_any f xs
+any_push_same f [] x e = ap (λ b. b || false) e
+any_push_same f (y ∷ xs) x e = ap (λ b. f y || b) (any_push_same f xs x e)
+
+pub any_mapped : {X : Type 0} (number : X → ℕ) (g : X → X) → ((x : X) → number (g x) ≡ number x) → (test : ℕ → Bool) (xs : List X) → list_any (λ x. test (number x)) (map g xs) ≡ list_any (λ x. test (number x)) xs
+any_mapped number g k test [] = refl
+any_mapped number g k test (x ∷ xs) =
+    ap (λ n. test n || list_any (λ y. test (number y)) (map g xs)) (k x) ∙ ap (λ b. test (number x) || b) (any_mapped number g k test xs)
+
+without_cond : {X : Type 0} (number : X → ℕ) (a b : ℕ) (x : X) (xs ys : List X) (t : Bool) → a ≢ b → (number x == b) ≡ t → list_any (λ y. number y == a) ys ≡ list_any (λ y. number y == a) xs
+    → list_any (λ y. number y == a) (cond (not t) (x ∷ ys) ys) ≡ (number x == a || list_any (λ y. number y == a) xs)
+without_cond number a b x xs ys true n e k =
+    let other : (number x == a) ≡ false = differs (number x) a (λ s. n (sym s ∙ true-eqb (number x) b (sym e))) in
+    k ∙ sym (ap (λ t. t || list_any (λ y. number y == a) xs) other)
+without_cond number a b x xs ys false n e k = ap (λ t. number x == a || t) k
+
+-- another number is still there after those of one have left
+pub any_without : {X : Type 0} (number : X → ℕ) (a b : ℕ) → a ≢ b → (xs : List X) → list_any (λ x. number x == a) (filter (λ x. not (number x == b)) xs) ≡ list_any (λ x. number x == a) xs
+any_without number a b n [] = refl
+any_without number a b n (x ∷ xs) = without_cond number a b x xs (filter (λ y. not (number y == b)) xs) (number x == b) n refl (any_without number a b n xs)
+
+pub any_front : {X : Type 0} (f : X → Bool) (xs : List X) (x : X) → list_any f (xs ++ x ∷ []) ≡ false → (list_any f xs ≡ false) × (f x ≡ false)
+any_front f [] x a = (refl, (or_split (f x) false a).0)
+any_front f (y ∷ xs) x a =
+    let s = or_split (f y) (list_any f (xs ++ x ∷ [])) a in
+    let t = any_front f xs x s.1 in
+    (or_join (f y) (list_any f xs) s.0 t.0, t.1)
+
+unfiltered_cond : {X : Type 0} (f : X → Bool) (x : X) (xs ys : List X) (b : Bool) → (b ≡ false → f x ≡ false) → (list_any f ys ≡ false → list_any f xs ≡ false) → list_any f (cond b (x ∷ ys) ys) ≡ false → (f x || list_any f xs) ≡ false
+unfiltered_cond f x xs ys true n k a =
+    let s = or_split (f x) (list_any f ys) a in
+    or_join (f x) (list_any f xs) s.0 (k s.1)
+unfiltered_cond f x xs ys false n k a = or_join (f x) (list_any f xs) (n refl) (k a)
+
+-- what none passes that stays, and none that leaves, none passes
+pub any_unfiltered : {X : Type 0} (f test : X → Bool) (xs : List X) → AllByRecursion (λ x. test x ≡ false → f x ≡ false) xs → list_any f (filter test xs) ≡ false → list_any f xs ≡ false
+any_unfiltered f test [] n a = refl
+any_unfiltered f test (x ∷ xs) n a = unfiltered_cond f x xs (filter test xs) (test x) n.0 (any_unfiltered f test xs n.1) a
+
+pub all_of : {X : Type 0} (P : X → Type 0) → ((x : X) → P x) → (xs : List X) → AllByRecursion P xs
+all_of P k [] = tt
+all_of P k (x ∷ xs) = (k x, all_of P k xs)
+
+pub not_same : (a b : ℕ) → not (a == b) ≡ true → a ≢ b
+not_same a b h e = absurd (true≢false (sym h ∙ ap not (eq-eqb a b e)))
+
+pub not_apart : (a b : ℕ) → not (a == b) ≡ false → a ≡ b
+not_apart a b h = true-eqb a b (sym (by_test (a == b) h))
+  where
+    by_test : (t : Bool) → not t ≡ false → t ≡ true
+    by_test true e = refl
+    by_test false e = absurd (true≢false e)

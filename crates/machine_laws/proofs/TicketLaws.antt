@@ -1,8 +1,10 @@
 -- Tickets and fetches stay in order.
-use Rattle.std.proofs.Common.{◌≡◌, ℕ, suc, ◌+◌, ◌<◌, ◌≤◌, ◌==◌, Bool, true, false, if◌then◌else◌, List, [], ◌∷◌, ◌++◌, map, filter, find, length, set, is_some, Option, Some, None, refl, sym, ap, ◌∙◌, subst, arith, length-append, length-set, append-nil}
+use Rattle.std.proofs.Common.{◌≡◌, ℕ, suc, ◌+◌, ◌-◌, ◌<◌, ◌≤◌, ◌==◌, Bool, true, false, not, if◌then◌else◌, List, [], ◌∷◌, ◌++◌, map, filter, find, length, set, is_some, Option, Some, None, refl, sym, ap, ◌∙◌, subst, arith, length-append, length-set, append-nil}
 use Rattle.std.proofs.lemmas.List.Elements.{filter-append}
 use Rattle.std.specs.List.{list_any, AllByRecursion}
-use Rattle.cache_model.specs.History.{History, Content, no_content}
+use Rattle.cache_model.specs.declared.write.Write.{Write}
+use Rattle.cache_model.specs.declared.kind.Kind.{Kind}
+use Rattle.cache_model.specs.History.{History, Content, no_content, with_mark, content_of, filled}
 use Rattle.queue_model.specs.Queue.{MutationQueue}
 use Rattle.machine_model.specs.Operations.{Meaning}
 use Rattle.machine_model.specs.State.{GatewayState, OpenFetch, PendingMutation, Job, first_state}
@@ -12,10 +14,10 @@ use Rattle.machine_model.specs.Commands.{command_step}
 use Rattle.machine_model.specs.Runs.{commands_taken}
 use Rattle.machine_laws.specs.Tickets.{Ascend, of_queries, AreInOrder, IsInOrder}
 use Rattle.machine_laws.proofs.Numbers.{all_weaker, all_push, all_filter, all_map, found_one, ascend_push, ascend_filter, ascend_map, ascend_among, single_push, single_filter, none_above}
-use Rattle.machine_laws.proofs.Walk.{Keeps, kept_by_command, kept_by_offers}
+use Rattle.machine_laws.proofs.Walk.{Keeps, ended_with, without_number, without_ticket, kept_by_command, kept_by_offers}
 use Rattle.machine_laws.proofs.RunLaws.{kept_by_runs}
 
-longer : (h : History) → length (h ++ no_content ∷ []) ≡ suc (length h)
+pub longer : (h : History) → length (h ++ no_content ∷ []) ≡ suc (length h)
 longer h =
     let one : length (h ++ no_content ∷ []) ≡ length h + 1 = length-append h (no_content ∷ []) in
     omega (arith, one)
@@ -66,7 +68,7 @@ module _ {O : Type 0} where
   in_row_ticket ticket row true pending = refl
   in_row_ticket ticket row false pending = refl
 
-  same_ticket : (ticket row : ℕ) (pending : PendingMutation O) → (in_row ticket row pending).ticket ≡ pending.ticket
+  pub same_ticket : (ticket row : ℕ) (pending : PendingMutation O) → (in_row ticket row pending).ticket ≡ pending.ticket
   same_ticket ticket row pending = in_row_ticket ticket row (pending.ticket == ticket) pending
 
   below_next : (h : History) (xs : List (OpenFetch O)) → AllByRecursion (λ (fetch : OpenFetch O). fetch.ticket ≤ length h) xs → AllByRecursion (λ (fetch : OpenFetch O). fetch.ticket < suc (length h)) xs
@@ -170,18 +172,28 @@ module _ {O : Type 0} where
     in_turn = ascend_map kept_of (in_row ticket row) (same_ticket ticket row) 0 m a.in_turn;
   }
 
-  keeps_order : Keeps {O = O} (λ h f m n. AreInOrder h f m n)
+  order_ended : (h : History) (f : List (OpenFetch O)) (m : List (PendingMutation O)) (n ticket : ℕ) (writes : List Write) (kind : Kind) → AreInOrder h f m n → AreInOrder (ended_with h ticket writes kind) f m n
+  order_ended h f m n ticket writes kind a =
+      order_filled (filled h ticket writes kind) f m n (ticket - 1) (with_mark (content_of (filled h ticket writes kind) ticket))
+      (order_filled h f m n (ticket - 1) (record { kind = kind; finished = false; writes = writes }) a)
+
+  pub keeps_order : Keeps {O = O} (λ h f m n. AreInOrder h f m n)
   keeps_order = record {
-    filled = order_filled;
+    guessed = λ h f m n i c waits a. order_filled h f m n i c a;
     query = order_query;
     mutation = order_mutation;
     again = order_again;
-    fetches = order_fetches;
-    mutations = order_mutations;
+    ended = λ h f m n test fetch writes kind found a.
+        order_ended h (without_number fetch.number f) m n fetch.ticket writes kind (order_fetches h f m n (λ (other : OpenFetch O). not (other.number == fetch.number)) a);
+    over = λ h f m n test fetch pending writes kind found waits a.
+        order_ended h (without_number fetch.number f) (without_ticket pending.ticket m) n pending.ticket writes kind
+        (order_mutations h (without_number fetch.number f) m n (λ (other : PendingMutation O). not (other.ticket == pending.ticket))
+        (order_fetches h f m n (λ (other : OpenFetch O). not (other.number == fetch.number)) a));
+    unanswered = λ h f m n test fetch found e a. order_fetches h f m n (λ (other : OpenFetch O). not (other.number == fetch.number)) a;
     rowed = order_rowed;
   }
 
-  order_first : (rows : MutationQueue) → IsInOrder {O = O} (first_state rows)
+  pub order_first : (rows : MutationQueue) → IsInOrder {O = O} (first_state rows)
   order_first rows = record { begun = omega arith; numbers = tt; below = tt; drawn = tt; single = tt; queries = tt; known = tt; in_turn = tt }
 
   pub tickets_in_order_at_first : (m : Meaning O) (rows : MutationQueue) (offers : List (Offered O)) → IsInOrder (all_offered m offers (first_state rows)).state

@@ -1,5 +1,6 @@
 -- What every change of tickets, fetches and mutations keeps, every command keeps.
 use Rattle.std.proofs.Common.{◌≡◌, ℕ, suc, ◌+◌, ◌-◌, ◌==◌, ◌&&◌, Bool, true, false, not, nat_le, if◌then◌else◌, List, [], ◌∷◌, ◌++◌, map, filter, find, length, set, is_some, Option, Some, None, Result, Ok, Err, refl}
+use Rattle.std.proofs.lemmas.Bool.{eq-eqb}
 use Rattle.std.specs.Option.{option_map_or}
 use Rattle.std.specs.List.{list_any}
 use Rattle.gql_model.specs.declared.executable.OperationKind.{OperationKind}
@@ -12,7 +13,7 @@ use Rattle.gql_value.specs.declared.outcome.Outcome.TheVariants as outcome
 use Rattle.cache_model.specs.declared.write.Write.{Write}
 use Rattle.cache_model.specs.declared.kind.Kind.{Kind}
 use Rattle.cache_model.specs.declared.kind.Kind.TheVariants.{Empty, Optimistic, Final}
-use Rattle.cache_model.specs.History.{History, Content, no_content, with_mark, content_of, filled, finished}
+use Rattle.cache_model.specs.History.{History, Content, no_content, filled, finished}
 use Rattle.send_rules.specs.declared.policy.Policy.{Policy}
 use Rattle.queue_model.specs.declared.row.Row.{Row}
 use Rattle.machine_model.specs.declared.command.Command.{Command, out-Command}
@@ -25,25 +26,39 @@ use Rattle.machine_model.specs.declared.output.Refusal.TheVariants as refusal
 use Rattle.machine_model.specs.Operations.{Meaning, Identity}
 use Rattle.machine_model.specs.State.{GatewayState, LiveOperation, Listening, query, mutation, OpenFetch, PendingMutation, Job, is_named, is_live, is_for_key, is_sent, next_ticket}
 use Rattle.machine_model.specs.Steps.{Step, Change, Sequel, stops, issues, reevaluates, unmoved, refused, followed_by}
-use Rattle.machine_model.specs.Telling.{Turn}
+use Rattle.machine_model.specs.Telling.{Turn, faulted}
 use Rattle.machine_model.specs.Reevaluation.{reevaluated}
 use Rattle.machine_model.specs.Issue.{is_network_only, with_ticket, may_be_sent, query_sent, issued_for, issued_over, sent}
 use Rattle.machine_model.specs.Sequels.{followed, concluded}
 use Rattle.machine_model.specs.Queries.{Sender, live_as, with_live, awaiting, query_read, query_added, key_of, with_identity}
 use Rattle.machine_model.specs.Mutations.{guessed, with_mutation, begun_and_sent}
 use Rattle.machine_model.specs.Teardowns.{has_listener, closed, forgotten, nothing_forgotten, key_left, left_behind, torn_down, torn_where_live, teardown, all_torn_down, without_named}
-use Rattle.machine_model.specs.Responses.{query_written, query_answered, without_mutation, row_done, over, mutation_failed, mutation_written, has_row_number, is_full, in_row, mutation_queued, mutation_put, mutation_unreached, mutation_ended, mutation_answered, pending_of, fetch_answered, answered_where_open, response}
+use Rattle.machine_model.specs.Responses.{answer_turn, query_written, query_answered, without_mutation, row_done, over, mutation_failed, mutation_written, has_row_number, is_full, in_row, mutation_queued, mutation_put, mutation_unreached, mutation_ended, mutation_answered, pending_of, fetch_answered, answered_where_open, response}
 use Rattle.machine_model.specs.Rows.{is_in_row, sent_again, rows_sent_again, Offered, all_offered}
+use Rattle.machine_model.specs.Laws.{is_mutation_at}
 use Rattle.machine_model.specs.Commands.{most_live, refused_frame, taken, taken_or_refused, sender_of, dispatched, step_of, command_step}
+use Rattle.machine_laws.proofs.Numbers.{any_last}
 
 -- what is said of the tickets, the open fetches, the mutations and the next number of a fetch
 abbrev pub Saying : Type 0 → Type 1
 Saying O = History → List (OpenFetch O) → List (PendingMutation O) → ℕ → Type 0
 
--- it is kept where a ticket gets another content; where a query or a mutation is sent under the next ticket, or a mutation
--- again under its own; and where fetches or mutations are over, or a mutation gets a row
+-- the history after a ticket got its last content
+abbrev pub ended_with : History → ℕ → List Write → Kind → History
+ended_with h ticket writes kind = finished (filled h ticket writes kind) ticket
+
+-- the fetches without the one of a number, and the mutations without that of a ticket
+abbrev pub without_number : {O : Type 0} → ℕ → List (OpenFetch O) → List (OpenFetch O)
+without_number number f = filter (λ other. not (other.number == number)) f
+
+abbrev pub without_ticket : {O : Type 0} → ℕ → List (PendingMutation O) → List (PendingMutation O)
+without_ticket ticket m = filter (λ other. not (other.ticket == ticket)) m
+
+-- it is kept where the ticket of a mutation gets another content; where a query or a mutation is sent under the next ticket,
+-- or a mutation again under its own; where the fetch of a query is over, with its ticket, or that of a mutation, with the
+-- mutation or without; and where a mutation gets a row
 pub record Keeps {O : Type 0} (P : Saying O) : Type 0 where
-  pub filled : (h : History) (f : List (OpenFetch O)) (m : List (PendingMutation O)) (n i : ℕ) (c : Content) → P h f m n → P (set h i c) f m n
+  pub guessed : (h : History) (f : List (OpenFetch O)) (m : List (PendingMutation O)) (n i : ℕ) (c : Content) → list_any (is_mutation_at i) m ≡ true → P h f m n → P (set h i c) f m n
   pub query : (h : History) (f : List (OpenFetch O)) (m : List (PendingMutation O)) (n key : ℕ) (operation : O) → P h f m n
       → P (h ++ no_content ∷ []) (f ++ record { number = n; ticket = suc (length h); key = Some key; operation = operation } ∷ []) m (n + 1)
   pub mutation : (h : History) (f : List (OpenFetch O)) (m : List (PendingMutation O)) (n : ℕ) (row : Option ℕ) (operation : O) → P h f m n
@@ -51,8 +66,13 @@ pub record Keeps {O : Type 0} (P : Saying O) : Type 0 where
   pub again : (h : History) (f : List (OpenFetch O)) (m : List (PendingMutation O)) (n : ℕ) (test : PendingMutation O → Bool) (pending : PendingMutation O) → find test m ≡ Some pending
       → list_any (λ fetch. fetch.ticket == pending.ticket) f ≡ false → P h f m n
       → P h (f ++ record { number = n; ticket = pending.ticket; key = None; operation = pending.operation } ∷ []) m (n + 1)
-  pub fetches : (h : History) (f : List (OpenFetch O)) (m : List (PendingMutation O)) (n : ℕ) (test : OpenFetch O → Bool) → P h f m n → P h (filter test f) m n
-  pub mutations : (h : History) (f : List (OpenFetch O)) (m : List (PendingMutation O)) (n : ℕ) (test : PendingMutation O → Bool) → P h f m n → P h f (filter test m) n
+  pub ended : (h : History) (f : List (OpenFetch O)) (m : List (PendingMutation O)) (n : ℕ) (test : OpenFetch O → Bool) (fetch : OpenFetch O) (writes : List Write) (kind : Kind) → find test f ≡ Some fetch
+      → P h f m n → P (ended_with h fetch.ticket writes kind) (without_number fetch.number f) m n
+  pub over : (h : History) (f : List (OpenFetch O)) (m : List (PendingMutation O)) (n : ℕ) (test : OpenFetch O → Bool) (fetch : OpenFetch O) (pending : PendingMutation O) (writes : List Write) (kind : Kind) → find test f ≡ Some fetch
+      → find (λ other. other.ticket == fetch.ticket) m ≡ Some pending → P h f m n
+      → P (ended_with h pending.ticket writes kind) (without_number fetch.number f) (without_ticket pending.ticket m) n
+  pub unanswered : (h : History) (f : List (OpenFetch O)) (m : List (PendingMutation O)) (n : ℕ) (test : OpenFetch O → Bool) (fetch : OpenFetch O) → find test f ≡ Some fetch → fetch.key ≡ None
+      → P h f m n → P h (without_number fetch.number f) m n
   pub rowed : (h : History) (f : List (OpenFetch O)) (m : List (PendingMutation O)) (n ticket row : ℕ) → P h f m n → P h f (map (in_row ticket row) m) n
 
 abbrev pub KeptIn : {O : Type 0} → Saying O → GatewayState O → Type 0
@@ -100,12 +120,6 @@ module _ {O : Type 0} (P : Saying O) (k : Keeps P) (m : Meaning O) where
   change_if true x y a b = a
   change_if false x y a b = b
 
-  -- a ticket gets its last content
-  ended : (h : History) (f : List (OpenFetch O)) (ms : List (PendingMutation O)) (n ticket : ℕ) (writes : List Write) (kind : Kind) → P h f ms n → P (finished (filled h ticket writes kind) ticket) f ms n
-  ended h f ms n ticket writes kind a =
-      k.filled (filled h ticket writes kind) f ms n (ticket - 1) (with_mark (content_of (filled h ticket writes kind) ticket))
-      (k.filled h f ms n (ticket - 1) (record { kind = kind; finished = false; writes = writes }) a)
-
   kept_concluded : (change : Change O) → Kept change.state → Kept (concluded m change).state
   kept_concluded change a = kept_by_what_follows P k.query m change a
 
@@ -119,10 +133,12 @@ module _ {O : Type 0} (P : Saying O) (k : Keeps P) (m : Meaning O) where
       → Kept (sent m (next_ticket s) None operation (with_mutation (record { ticket = next_ticket s; row = row; operation = operation }) (guessed (next_ticket s) guess (with_ticket s)))).state
   kept_begun operation row s None a = k.mutation s.history s.fetches s.mutations s.next_fetch row operation a
   kept_begun operation row s (Some writes) a =
-      k.filled (s.history ++ no_content ∷ [])
+      let pending : PendingMutation O = record { ticket = next_ticket s; row = row; operation = operation } in
+      k.guessed (s.history ++ no_content ∷ [])
       (s.fetches ++ record { number = s.next_fetch; ticket = next_ticket s; key = None; operation = operation } ∷ [])
-      (s.mutations ++ record { ticket = next_ticket s; row = row; operation = operation } ∷ [])
+      (s.mutations ++ pending ∷ [])
       (s.next_fetch + 1) (next_ticket s - 1) (record { kind = Optimistic; finished = false; writes = writes })
+      (any_last (is_mutation_at (next_ticket s - 1)) s.mutations pending (eq-eqb (next_ticket s - 1) (next_ticket s - 1) refl))
       (k.mutation s.history s.fetches s.mutations s.next_fetch row operation a)
 
   kept_taken : (sender : Sender) (policy : Policy) (operation : O) (s : GatewayState O) (given : OperationKind) → Kept s → Kept (taken m sender policy operation s given).state
@@ -145,18 +161,13 @@ module _ {O : Type 0} (P : Saying O) (k : Keeps P) (m : Meaning O) where
 
   -- ---- teardowns
 
-  kept_closed : (number : ℕ) (s : GatewayState O) → Kept s → Kept (closed number s)
-  kept_closed number s a = k.fetches s.history s.fetches s.mutations s.next_fetch (λ (other : OpenFetch O). not (other.number == number)) a
-
-  kept_forgotten : (s : GatewayState O) (fetch : Option (OpenFetch O)) → Kept s → Kept (option_map_or (forgotten s) fetch (nothing_forgotten s)).state
-  kept_forgotten s (Some fetch) a =
-      let after = closed fetch.number s in
-      ended after.history after.fetches after.mutations after.next_fetch fetch.ticket [] Empty (kept_closed fetch.number s a)
-  kept_forgotten s None a = a
+  kept_forgotten : (s : GatewayState O) (test : OpenFetch O → Bool) (fetch : Option (OpenFetch O)) → find test s.fetches ≡ fetch → Kept s → Kept (option_map_or (forgotten s) fetch (nothing_forgotten s)).state
+  kept_forgotten s test (Some fetch) found a = k.ended s.history s.fetches s.mutations s.next_fetch test fetch [] Empty found a
+  kept_forgotten s test None found a = a
 
   kept_left : (listens : Listening O) (s : GatewayState O) → Kept s → Kept (left_behind listens s).state
   kept_left (query l) s a =
-      change_if (has_listener s l.key) (nothing_forgotten s) (key_left l.key s) a (kept_forgotten s (find (is_for_key l.key) s.fetches) a)
+      change_if (has_listener s l.key) (nothing_forgotten s) (key_left l.key s) a (kept_forgotten s (is_for_key l.key) (find (is_for_key l.key) s.fetches) refl a)
   kept_left (mutation ticket) s a = a
 
   kept_where_live : (peer id line : ℕ) (took_out : Bool) (s : GatewayState O) (live : Option (LiveOperation O)) → Kept s → Kept (torn_where_live peer id line took_out s live).state
@@ -172,76 +183,85 @@ module _ {O : Type 0} (P : Saying O) (k : Keeps P) (m : Meaning O) where
 
   -- ---- responses
 
-  kept_query_written : (fetch : OpenFetch O) (key : ℕ) (errors : Value) (s : GatewayState O) (written : Result (List Write) (List ℕ)) → Kept s → Kept (query_written m fetch key errors s written).state
-  kept_query_written fetch key errors s (Ok writes) a = ended s.history s.fetches s.mutations s.next_fetch fetch.ticket writes Final a
-  kept_query_written fetch key errors s (Err path) a = ended s.history s.fetches s.mutations s.next_fetch fetch.ticket [] Empty a
+  -- it holds when the ticket has got its last content, whichever
+  abbrev KeptAtEnd : ℕ → GatewayState O → Type 0
+  KeptAtEnd ticket s = (writes : List Write) (kind : Kind) → P (ended_with s.history ticket writes kind) s.fetches s.mutations s.next_fetch
 
-  kept_query_answered : (fetch : OpenFetch O) (key : ℕ) (s : GatewayState O) (o : Outcome) → Kept s → Kept (query_answered m fetch key s o).state
-  kept_query_answered fetch key s (outcome.Body answer errors) a = kept_query_written fetch key errors s (m.written fetch.operation answer errors) a
-  kept_query_answered fetch key s (outcome.Bad fault) a = ended s.history s.fetches s.mutations s.next_fetch fetch.ticket [] Empty a
+  kept_query_written : (fetch : OpenFetch O) (key : ℕ) (errors : Value) (s : GatewayState O) (written : Result (List Write) (List ℕ)) → KeptAtEnd fetch.ticket s → Kept (query_written m fetch key errors s written).state
+  kept_query_written fetch key errors s (Ok writes) e = e writes Final
+  kept_query_written fetch key errors s (Err path) e = e [] Empty
+
+  kept_query_answered : (fetch : OpenFetch O) (key : ℕ) (s : GatewayState O) (o : Outcome) → KeptAtEnd fetch.ticket s → Kept (query_answered m fetch key s o).state
+  kept_query_answered fetch key s (outcome.Body answer errors) e = kept_query_written fetch key errors s (m.written fetch.operation answer errors) e
+  kept_query_answered fetch key s (outcome.Bad fault) e = e [] Empty
 
   kept_done : (row : Option ℕ) (s : GatewayState O) → Kept s → Kept (row_done row s)
   kept_done None s a = a
   kept_done (Some row) s a = a
 
-  kept_over : (pending : PendingMutation O) (turn : LiveOperation O → Turn O) (s : GatewayState O) → Kept s → Kept (over pending turn s).state
-  kept_over pending turn s a =
-      kept_done pending.row (without_mutation pending.ticket s)
-      (k.mutations s.history s.fetches s.mutations s.next_fetch (λ (other : PendingMutation O). not (other.ticket == pending.ticket)) a)
+  -- it holds when the mutation is over, whatever its ticket got
+  abbrev KeptWhenOver : PendingMutation O → GatewayState O → Type 0
+  KeptWhenOver pending s = KeptAtEnd pending.ticket (without_mutation pending.ticket s)
 
-  kept_failed : (pending : PendingMutation O) (ending : Ending) (s : GatewayState O) → Kept s → Kept (mutation_failed m pending ending s).state
-  kept_failed pending ending s a =
-      let after = finished (filled s.history pending.ticket [] Empty) pending.ticket in
-      kept_done pending.row (without_mutation pending.ticket (record s { history = after }))
-      (k.mutations after s.fetches s.mutations s.next_fetch (λ (other : PendingMutation O). not (other.ticket == pending.ticket)) (ended s.history s.fetches s.mutations s.next_fetch pending.ticket [] Empty a))
+  kept_over : (pending : PendingMutation O) (turn : LiveOperation O → Turn O) (writes : List Write) (kind : Kind) (s : GatewayState O) → KeptWhenOver pending s
+      → Kept (over pending turn (record s { history = ended_with s.history pending.ticket writes kind })).state
+  kept_over pending turn writes kind s e = kept_done pending.row (without_mutation pending.ticket (record s { history = ended_with s.history pending.ticket writes kind })) (e writes kind)
 
-  kept_written : (pending : PendingMutation O) (answer errors : Value) (s : GatewayState O) (written : Result (List Write) (List ℕ)) → Kept s → Kept (mutation_written m pending answer errors s written).state
-  kept_written pending answer errors s (Ok writes) a =
-      let all = writes ++ m.updates pending.operation answer in
-      let after = finished (filled s.history pending.ticket all Final) pending.ticket in
-      kept_done pending.row (without_mutation pending.ticket (record s { history = after }))
-      (k.mutations after s.fetches s.mutations s.next_fetch (λ (other : PendingMutation O). not (other.ticket == pending.ticket)) (ended s.history s.fetches s.mutations s.next_fetch pending.ticket all Final a))
-  kept_written pending answer errors s (Err path) a = kept_failed pending (Outside (F4 path)) s a
+  kept_failed : (pending : PendingMutation O) (ending : Ending) (s : GatewayState O) → KeptWhenOver pending s → Kept (mutation_failed m pending ending s).state
+  kept_failed pending ending s e = kept_over pending (faulted m ending) [] Empty s e
+
+  kept_written : (pending : PendingMutation O) (answer errors : Value) (s : GatewayState O) (written : Result (List Write) (List ℕ)) → KeptWhenOver pending s → Kept (mutation_written m pending answer errors s written).state
+  kept_written pending answer errors s (Ok writes) e = kept_over pending (answer_turn m pending.operation answer errors) (writes ++ m.updates pending.operation answer) Final s e
+  kept_written pending answer errors s (Err path) e = kept_failed pending (Outside (F4 path)) s e
 
   kept_queued : (pending : PendingMutation O) (identity : Identity) (s : GatewayState O) → Kept s → Kept (mutation_queued pending identity s).state
   kept_queued pending identity s a = k.rowed s.history s.fetches s.mutations s.next_fetch pending.ticket (s.rows.greatest + 1) a
 
-  kept_put : (pending : PendingMutation O) (identity : Identity) (s : GatewayState O) → Kept s → Kept (mutation_put m pending identity s).state
-  kept_put pending identity s a =
+  kept_put : (pending : PendingMutation O) (identity : Identity) (s : GatewayState O) → Kept s → KeptWhenOver pending s → Kept (mutation_put m pending identity s).state
+  kept_put pending identity s a e =
       change_if (has_row_number s.rows && is_full s.rows identity) (mutation_failed m pending QueueFull s) (mutation_queued pending identity s)
-      (kept_failed pending QueueFull s a) (kept_queued pending identity s a)
+      (kept_failed pending QueueFull s e) (kept_queued pending identity s a)
 
-  kept_unreached : (pending : PendingMutation O) (row : Option ℕ) (s : GatewayState O) → Kept s → Kept (mutation_unreached m pending row s).state
-  kept_unreached pending (Some row) s a = a
-  kept_unreached pending None s a =
+  kept_unreached : (pending : PendingMutation O) (row : Option ℕ) (s : GatewayState O) → Kept s → KeptWhenOver pending s → Kept (mutation_unreached m pending row s).state
+  kept_unreached pending (Some row) s a e = a
+  kept_unreached pending None s a e =
       change_if (is_some (m.guess pending.operation)) (mutation_put m pending (m.identity pending.operation) s) (mutation_failed m pending (Outside F6) s)
-      (kept_put pending (m.identity pending.operation) s a) (kept_failed pending (Outside F6) s a)
+      (kept_put pending (m.identity pending.operation) s a e) (kept_failed pending (Outside F6) s e)
 
-  kept_ended : (pending : PendingMutation O) (s : GatewayState O) (fault : Fault) → Kept s → Kept (mutation_ended m pending s fault).state
-  kept_ended pending s F6 a = kept_unreached pending pending.row s a
-  kept_ended pending s F1 a = kept_failed pending (Outside F1) s a
-  kept_ended pending s F2 a = kept_failed pending (Outside F2) s a
-  kept_ended pending s (F3 path) a = kept_failed pending (Outside (F3 path)) s a
-  kept_ended pending s (F4 path) a = kept_failed pending (Outside (F4 path)) s a
-  kept_ended pending s (F5 status) a = kept_failed pending (Outside (F5 status)) s a
-  kept_ended pending s F7 a = kept_failed pending (Outside F7) s a
-  kept_ended pending s F8 a = kept_failed pending (Outside F8) s a
+  kept_ended : (pending : PendingMutation O) (s : GatewayState O) (fault : Fault) → Kept s → KeptWhenOver pending s → Kept (mutation_ended m pending s fault).state
+  kept_ended pending s F6 a e = kept_unreached pending pending.row s a e
+  kept_ended pending s F1 a e = kept_failed pending (Outside F1) s e
+  kept_ended pending s F2 a e = kept_failed pending (Outside F2) s e
+  kept_ended pending s (F3 path) a e = kept_failed pending (Outside (F3 path)) s e
+  kept_ended pending s (F4 path) a e = kept_failed pending (Outside (F4 path)) s e
+  kept_ended pending s (F5 status) a e = kept_failed pending (Outside (F5 status)) s e
+  kept_ended pending s F7 a e = kept_failed pending (Outside F7) s e
+  kept_ended pending s F8 a e = kept_failed pending (Outside F8) s e
 
-  kept_mutation_answered : (pending : PendingMutation O) (s : GatewayState O) (o : Outcome) → Kept s → Kept (mutation_answered m pending s o).state
-  kept_mutation_answered pending s (outcome.Body answer errors) a = kept_written pending answer errors s (m.written pending.operation answer errors) a
-  kept_mutation_answered pending s (outcome.Bad fault) a = kept_ended pending s fault a
+  kept_mutation_answered : (pending : PendingMutation O) (s : GatewayState O) (o : Outcome) → Kept s → KeptWhenOver pending s → Kept (mutation_answered m pending s o).state
+  kept_mutation_answered pending s (outcome.Body answer errors) a e = kept_written pending answer errors s (m.written pending.operation answer errors) e
+  kept_mutation_answered pending s (outcome.Bad fault) a e = kept_ended pending s fault a e
 
-  kept_pending : (o : Outcome) (s : GatewayState O) (pending : Option (PendingMutation O)) → Kept s → Kept (option_map_or (λ found. mutation_answered m found s o) pending (followed_by (unmoved s) stops)).state
-  kept_pending o s (Some pending) a = kept_mutation_answered pending s o a
-  kept_pending o s None a = a
+  kept_pending : (o : Outcome) (s : GatewayState O) (ticket : ℕ) (pending : Option (PendingMutation O)) → pending_of ticket s ≡ pending → Kept s
+      → ((found : PendingMutation O) → pending_of ticket s ≡ Some found → KeptWhenOver found s)
+      → Kept (option_map_or (λ found. mutation_answered m found s o) pending (followed_by (unmoved s) stops)).state
+  kept_pending o s ticket (Some pending) found a e = kept_mutation_answered pending s o a (e pending found)
+  kept_pending o s ticket None found a e = a
 
-  kept_fetch : (fetch : OpenFetch O) (o : Outcome) (s : GatewayState O) (key : Option ℕ) → Kept s → Kept (fetch_answered m fetch o s key).state
-  kept_fetch fetch o s (Some key) a = kept_query_answered fetch key s o a
-  kept_fetch fetch o s None a = kept_pending o s (pending_of fetch.ticket s) a
+  -- the answer to an open fetch, which is over then
+  kept_fetch : (number : ℕ) (fetch : OpenFetch O) (o : Outcome) (s : GatewayState O) (key : Option ℕ) → find (λ other. other.number == number) s.fetches ≡ Some fetch → fetch.key ≡ key → Kept s
+      → Kept (fetch_answered m fetch o (closed fetch.number s) key).state
+  kept_fetch number fetch o s (Some key) found e a =
+      kept_query_answered fetch key (closed fetch.number s) o
+      (λ writes kind. k.ended s.history s.fetches s.mutations s.next_fetch (λ (other : OpenFetch O). other.number == number) fetch writes kind found a)
+  kept_fetch number fetch o s None found e a =
+      kept_pending o (closed fetch.number s) fetch.ticket (pending_of fetch.ticket s) refl
+      (k.unanswered s.history s.fetches s.mutations s.next_fetch (λ (other : OpenFetch O). other.number == number) fetch found e a)
+      (λ pending waits writes kind. k.over s.history s.fetches s.mutations s.next_fetch (λ (other : OpenFetch O). other.number == number) fetch pending writes kind found waits a)
 
-  kept_open : (peer line : ℕ) (o : Outcome) (s : GatewayState O) (fetch : Option (OpenFetch O)) → Kept s → Kept (answered_where_open m peer line o s fetch).state
-  kept_open peer line o s None a = a
-  kept_open peer line o s (Some fetch) a = kept_fetch fetch o (closed fetch.number s) fetch.key (kept_closed fetch.number s a)
+  kept_open : (peer line number : ℕ) (o : Outcome) (s : GatewayState O) (fetch : Option (OpenFetch O)) → find (λ other. other.number == number) s.fetches ≡ fetch → Kept s → Kept (answered_where_open m peer line o s fetch).state
+  kept_open peer line number o s None found a = a
+  kept_open peer line number o s (Some fetch) found a = kept_fetch number fetch o s fetch.key found refl a
 
   -- ---- rows
 
@@ -274,7 +294,7 @@ module _ {O : Type 0} (P : Saying O) (k : Keeps P) (m : Meaning O) where
   kept_step took_out s (Command-F.Teardown peer id line) a =
       kept_concluded (teardown peer id line took_out s) (kept_where_live peer id line took_out s (find (is_named peer id) s.live) a)
   kept_step took_out s (Command-F.Respond peer fetch line o) a =
-      kept_concluded (response m peer fetch line o s) (kept_open peer line o s (find (λ (other : OpenFetch O). other.number == fetch) s.fetches) a)
+      kept_concluded (response m peer fetch line o s) (kept_open peer line fetch o s (find (λ (other : OpenFetch O). other.number == fetch) s.fetches) refl a)
   kept_step took_out s Command-F.Online a = kept_rows s.rows.rows s a
   kept_step took_out s (Command-F.Layers peer) a = a
   kept_step took_out s (Command-F.Flat peer) a = a

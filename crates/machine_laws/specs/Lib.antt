@@ -1,3 +1,4 @@
 pub mod Tickets
 pub mod Answers
 pub mod Endings
+pub mod Closings

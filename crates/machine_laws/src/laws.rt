@@ -1,6 +1,9 @@
 ghost use Rattle.machine_laws.specs.Tickets.{TicketsInOrderAtFirst, TicketsInOrder, TicketsInOrderInRuns};
 ghost use Rattle.machine_laws.specs.Answers.{FinalAnswersClose};
 ghost use Rattle.machine_laws.specs.Endings.{EveryRunEnds};
+ghost use Rattle.machine_laws.specs.Closings.{TicketsApartAtFirst, TicketsApart, QueriesAlone, MutationsAlone, QueriesClose, MutationsClose, OpenQueriesClose, OpenMutationsClose, TeardownsClose, FullQueuesClose, TicketsApartInRuns};
+
+use machine_model::answers_close;
 
 /// Each ticket has one open fetch at most, and tickets are drawn in order of first sending.
 pub fn tickets_in_order<O>()
@@ -17,4 +20,37 @@ pub fn final_answers_close<O>()
 /// Each command has a run, where the listener asks for no more than was given to follow.
 pub fn every_run_ends<O>()
     ensures { EveryRunEnds O }
+{}
+
+/// What nothing is open for is finished, and an open fetch shares its ticket with a mutation where it has no key.
+pub fn tickets_apart<O>()
+    ensures first { TicketsApartAtFirst O }
+    ensures command { TicketsApart O }
+    ensures run { TicketsApartInRuns O }
+{}
+
+/// Each open fetch is alone with its ticket but for its own mutation.
+pub fn fetches_alone<O>()
+    ensures query { QueriesAlone O }
+    ensures mutation { MutationsAlone O }
+{}
+
+/// Whichever command ends the open fetch of a query, or a mutation, its ticket is finished and closed then.
+pub fn what_ends_closes<O>()
+    ensures query { QueriesClose O }
+    ensures mutation { MutationsClose O }
+{}
+
+/// After an answer to an open fetch its ticket is finished and closed.
+pub fn open_fetches_close<O>()
+    ensures query { OpenQueriesClose O }
+    ensures mutation { OpenMutationsClose O }
+{
+    answers_close::<O>();
+}
+
+/// What the last teardown of a key or a full queue gives up is emptied, finished and closed.
+pub fn given_up_closes<O>()
+    ensures teardown { TeardownsClose O }
+    ensures queue { FullQueuesClose O }
 {}

@@ -8,4 +8,7 @@
 
 mod laws;
 
-pub use laws::{every_run_ends, final_answers_close, tickets_in_order};
+pub use laws::{
+    every_run_ends, fetches_alone, final_answers_close, given_up_closes, open_fetches_close,
+    tickets_apart, tickets_in_order, what_ends_closes,
+};
