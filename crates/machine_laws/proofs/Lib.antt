@@ -7,3 +7,5 @@ pub mod EndingLaws
 pub mod WeightLaws
 pub mod ApartLaws
 pub mod ClosingLaws
+pub mod ResultLaws
+pub mod ListingLaws

@@ -1,5 +1,6 @@
--- What every change of tickets, fetches and mutations keeps, every command keeps.
-use Rattle.std.proofs.Common.{◌≡◌, ℕ, suc, ◌+◌, ◌-◌, ◌==◌, ◌&&◌, Bool, true, false, not, nat_le, if◌then◌else◌, List, [], ◌∷◌, ◌++◌, map, filter, find, length, set, is_some, Option, Some, None, Result, Ok, Err, refl}
+-- What every change of tickets, fetches and mutations keeps, every command keeps. `KeepsResults` tells of each change all
+-- that the machine says of it; `Keeps` is for what is kept whatever a ticket gets.
+use Rattle.std.proofs.Common.{◌≡◌, ℕ, suc, ◌+◌, ◌-◌, ◌==◌, ◌&&◌, Bool, true, false, not, nat_le, if◌then◌else◌, List, [], ◌∷◌, ◌++◌, map, filter, find, length, set, is_some, Option, Some, None, Result, Ok, Err, refl, sym, ap, subst, true-eqb}
 use Rattle.std.proofs.lemmas.Bool.{eq-eqb}
 use Rattle.std.specs.Option.{option_map_or}
 use Rattle.std.specs.List.{list_any}
@@ -37,7 +38,9 @@ use Rattle.machine_model.specs.Responses.{answer_turn, query_written, query_answ
 use Rattle.machine_model.specs.Rows.{is_in_row, sent_again, rows_sent_again, Offered, all_offered}
 use Rattle.machine_model.specs.Laws.{is_mutation_at}
 use Rattle.machine_model.specs.Commands.{most_live, refused_frame, taken, taken_or_refused, sender_of, dispatched, step_of, command_step}
-use Rattle.machine_laws.proofs.Numbers.{any_last}
+use Rattle.machine_laws.specs.Closings.{IsOpen}
+use Rattle.machine_laws.specs.Results.{Came, answered, no_answer, held_after, held_by, IsAnswer, Brings}
+use Rattle.machine_laws.proofs.Numbers.{found_passes, any_last}
 
 -- what is said of the tickets, the open fetches, the mutations and the next number of a fetch
 abbrev pub Saying : Type 0 → Type 1
@@ -75,6 +78,11 @@ pub record Keeps {O : Type 0} (P : Saying O) : Type 0 where
       → P h f m n → P h (without_number fetch.number f) m n
   pub rowed : (h : History) (f : List (OpenFetch O)) (m : List (PendingMutation O)) (n ticket row : ℕ) → P h f m n → P h f (map (in_row ticket row) m) n
 
+-- the history after a mutation drew the next ticket, with its guess
+abbrev pub begun_with : History → Option (List Write) → History
+begun_with h None = h ++ no_content ∷ []
+begun_with h (Some writes) = filled (h ++ no_content ∷ []) (suc (length h)) writes Optimistic
+
 abbrev pub KeptIn : {O : Type 0} → Saying O → GatewayState O → Type 0
 KeptIn P s = P s.history s.fetches s.mutations s.next_fetch
 
@@ -82,6 +90,55 @@ KeptIn P s = P s.history s.fetches s.mutations s.next_fetch
 abbrev pub KeepsQuery : {O : Type 0} → Saying O → Type 0
 KeepsQuery {O} P = (h : History) (f : List (OpenFetch O)) (m : List (PendingMutation O)) (n key : ℕ) (operation : O) → P h f m n
     → P (h ++ no_content ∷ []) (f ++ record { number = n; ticket = suc (length h); key = Some key; operation = operation } ∷ []) m (n + 1)
+
+-- it is kept where a mutation is sent for the first time
+abbrev pub KeepsMutation : {O : Type 0} → Meaning O → Saying O → Type 0
+KeepsMutation {O} meaning P = (h : History) (f : List (OpenFetch O)) (m : List (PendingMutation O)) (n : ℕ) (row : Option ℕ) (operation : O) (guess : Option (List Write)) → meaning.guess operation ≡ guess → P h f m n
+    → P (begun_with h guess) (f ++ record { number = n; ticket = suc (length h); key = None; operation = operation } ∷ []) (m ++ record { ticket = suc (length h); row = row; operation = operation } ∷ []) (n + 1)
+
+-- It is kept by a command that meets a state. What a ticket gets last is what its operation has by what the command brings, and
+-- the fetch that is over with its ticket alone is that of a query.
+pub record KeepsResults {O : Type 0} (meaning : Meaning O) (state : GatewayState O) (command : Command) (P : Saying O) : Type 0 where
+  pub query : KeepsQuery P
+  pub mutation : KeepsMutation meaning P
+  pub again : (h : History) (f : List (OpenFetch O)) (m : List (PendingMutation O)) (n : ℕ) (test : PendingMutation O → Bool) (pending : PendingMutation O) → find test m ≡ Some pending
+      → list_any (λ fetch. fetch.ticket == pending.ticket) f ≡ false → P h f m n
+      → P h (f ++ record { number = n; ticket = pending.ticket; key = None; operation = pending.operation } ∷ []) m (n + 1)
+  pub ended : (h : History) (f : List (OpenFetch O)) (m : List (PendingMutation O)) (n : ℕ) (test : OpenFetch O → Bool) (fetch : OpenFetch O) (writes : List Write) (kind : Kind) (came : Came) → find test f ≡ Some fetch
+      → is_some fetch.key ≡ true → Brings state command fetch came → held_by meaning fetch.operation false came ≡ record { kind = kind; finished = true; writes = writes }
+      → P h f m n → P (ended_with h fetch.ticket writes kind) (without_number fetch.number f) m n
+  pub over : (h : History) (f : List (OpenFetch O)) (m : List (PendingMutation O)) (n : ℕ) (test : OpenFetch O → Bool) (fetch : OpenFetch O) (pending : PendingMutation O) (writes : List Write) (kind : Kind) (came : Came) → find test f ≡ Some fetch
+      → find (λ other. other.ticket == fetch.ticket) m ≡ Some pending → Brings state command fetch came → held_by meaning pending.operation true came ≡ record { kind = kind; finished = true; writes = writes }
+      → P h f m n → P (ended_with h pending.ticket writes kind) (without_number fetch.number f) (without_ticket pending.ticket m) n
+  pub unanswered : (h : History) (f : List (OpenFetch O)) (m : List (PendingMutation O)) (n : ℕ) (test : OpenFetch O → Bool) (fetch : OpenFetch O) → find test f ≡ Some fetch → fetch.key ≡ None
+      → P h f m n → P h (without_number fetch.number f) m n
+  pub rowed : (h : History) (f : List (OpenFetch O)) (m : List (PendingMutation O)) (n ticket row : ℕ) → P h f m n → P h f (map (in_row ticket row) m) n
+
+-- ---- what is kept whatever a ticket gets
+
+module _ {O : Type 0} (P : Saying O) (k : Keeps P) (meaning : Meaning O) where
+  keeps_mutation : KeepsMutation meaning P
+  keeps_mutation h f m n row operation None e a = k.mutation h f m n row operation a
+  keeps_mutation h f m n row operation (Some writes) e a =
+      let pending : PendingMutation O = record { ticket = suc (length h); row = row; operation = operation } in
+      let place = suc (length h) - 1 in
+      k.guessed (h ++ no_content ∷ [])
+      (f ++ record { number = n; ticket = suc (length h); key = None; operation = operation } ∷ [])
+      (m ++ pending ∷ [])
+      (n + 1) place (record { kind = Optimistic; finished = false; writes = writes })
+      (any_last (is_mutation_at place) m pending (eq-eqb place place refl))
+      (k.mutation h f m n row operation a)
+
+  pub keeps_results : (state : GatewayState O) (command : Command) → KeepsResults meaning state command P
+  keeps_results state command = record {
+    query = k.query;
+    mutation = keeps_mutation;
+    again = k.again;
+    ended = λ h f m n test fetch writes kind came found is brings held a. k.ended h f m n test fetch writes kind found a;
+    over = λ h f m n test fetch pending writes kind came found waits brings held a. k.over h f m n test fetch pending writes kind found waits a;
+    unanswered = k.unanswered;
+    rowed = k.rowed;
+  }
 
 -- ---- what follows a change sends queries alone
 
@@ -108,7 +165,22 @@ module _ {O : Type 0} (P : Saying O) (k : KeepsQuery P) (m : Meaning O) where
   pub kept_by_what_follows : (change : Change O) → KeptIn P change.state → KeptIn P (concluded m change).state
   kept_by_what_follows change a = kept_followed change.sequel change.state a
 
-module _ {O : Type 0} (P : Saying O) (k : Keeps P) (m : Meaning O) where
+-- ---- mutations that are sent for the first time
+
+module _ {O : Type 0} (P : Saying O) (m : Meaning O) (k : KeepsMutation m P) where
+  kept_begun : (operation : O) (row : Option ℕ) (s : GatewayState O) (guess : Option (List Write)) → m.guess operation ≡ guess → KeptIn P s
+      → KeptIn P (sent m (next_ticket s) None operation (with_mutation (record { ticket = next_ticket s; row = row; operation = operation }) (guessed (next_ticket s) guess (with_ticket s)))).state
+  kept_begun operation row s None e a = k s.history s.fetches s.mutations s.next_fetch row operation None e a
+  kept_begun operation row s (Some writes) e a = k s.history s.fetches s.mutations s.next_fetch row operation (Some writes) e a
+
+  kept_by_rows : (offers : List (Offered O)) (s : GatewayState O) → KeptIn P s → KeptIn P (all_offered m offers s).state
+  kept_by_rows [] s a = a
+  kept_by_rows (offer ∷ offers) s a =
+      kept_by_rows offers (begun_and_sent m offer.1 (Some offer.0) s).state (kept_begun offer.1 (Some offer.0) s (m.guess offer.1) refl a)
+
+-- ---- commands
+
+module _ {O : Type 0} (P : Saying O) (m : Meaning O) (now : GatewayState O) (job : Job) (k : KeepsResults m now job.command P) where
   abbrev Kept : GatewayState O → Type 0
   Kept s = P s.history s.fetches s.mutations s.next_fetch
 
@@ -129,24 +201,12 @@ module _ {O : Type 0} (P : Saying O) (k : Keeps P) (m : Meaning O) where
   kept_query_added sender operation key policy s a =
       kept_if (is_network_only policy) (unmoved (with_live (live_as sender (query (awaiting operation key policy))) s)) (query_read m sender operation key policy s) a a
 
-  kept_begun : (operation : O) (row : Option ℕ) (s : GatewayState O) (guess : Option (List Write)) → Kept s
-      → Kept (sent m (next_ticket s) None operation (with_mutation (record { ticket = next_ticket s; row = row; operation = operation }) (guessed (next_ticket s) guess (with_ticket s)))).state
-  kept_begun operation row s None a = k.mutation s.history s.fetches s.mutations s.next_fetch row operation a
-  kept_begun operation row s (Some writes) a =
-      let pending : PendingMutation O = record { ticket = next_ticket s; row = row; operation = operation } in
-      k.guessed (s.history ++ no_content ∷ [])
-      (s.fetches ++ record { number = s.next_fetch; ticket = next_ticket s; key = None; operation = operation } ∷ [])
-      (s.mutations ++ pending ∷ [])
-      (s.next_fetch + 1) (next_ticket s - 1) (record { kind = Optimistic; finished = false; writes = writes })
-      (any_last (is_mutation_at (next_ticket s - 1)) s.mutations pending (eq-eqb (next_ticket s - 1) (next_ticket s - 1) refl))
-      (k.mutation s.history s.fetches s.mutations s.next_fetch row operation a)
-
   kept_taken : (sender : Sender) (policy : Policy) (operation : O) (s : GatewayState O) (given : OperationKind) → Kept s → Kept (taken m sender policy operation s given).state
   kept_taken sender policy operation s kind.Query a =
       let identity = m.identity operation in
       kept_query_added sender operation (key_of s.identities identity) policy (record s { identities = with_identity s.identities identity }) a
-  kept_taken sender policy operation s kind.Mutation a = kept_begun operation None (with_live (live_as sender (mutation (next_ticket s))) s) (m.guess operation) a
-  kept_taken sender policy operation s kind.Subscription a = kept_begun operation None (with_live (live_as sender (mutation (next_ticket s))) s) (m.guess operation) a
+  kept_taken sender policy operation s kind.Mutation a = kept_begun P m k.mutation operation None (with_live (live_as sender (mutation (next_ticket s))) s) (m.guess operation) refl a
+  kept_taken sender policy operation s kind.Subscription a = kept_begun P m k.mutation operation None (with_live (live_as sender (mutation (next_ticket s))) s) (m.guess operation) refl a
 
   kept_judged : (sender : Sender) (line : ℕ) (policy : Policy) (s : GatewayState O) (judged : Result O Refusal) → Kept s → Kept (taken_or_refused m sender line policy s judged).state
   kept_judged sender line policy s (Err r) a = a
@@ -161,13 +221,18 @@ module _ {O : Type 0} (P : Saying O) (k : Keeps P) (m : Meaning O) where
 
   -- ---- teardowns
 
-  kept_forgotten : (s : GatewayState O) (test : OpenFetch O → Bool) (fetch : Option (OpenFetch O)) → find test s.fetches ≡ fetch → Kept s → Kept (option_map_or (forgotten s) fetch (nothing_forgotten s)).state
-  kept_forgotten s test (Some fetch) found a = k.ended s.history s.fetches s.mutations s.next_fetch test fetch [] Empty found a
-  kept_forgotten s test None found a = a
+  keyed : (key : ℕ) (own : Option ℕ) → option_map_or (λ other. other == key) own false ≡ true → is_some own ≡ true
+  keyed key (Some own) e = refl
+  keyed key None e = e
+
+  kept_forgotten : (s : GatewayState O) (key : ℕ) (fetch : Option (OpenFetch O)) → find (is_for_key key) s.fetches ≡ fetch → Kept s → Kept (option_map_or (forgotten s) fetch (nothing_forgotten s)).state
+  kept_forgotten s key (Some fetch) found a =
+      k.ended s.history s.fetches s.mutations s.next_fetch (is_for_key key) fetch [] Empty no_answer found (keyed key fetch.key (found_passes (is_for_key key) s.fetches fetch found)) tt refl a
+  kept_forgotten s key None found a = a
 
   kept_left : (listens : Listening O) (s : GatewayState O) → Kept s → Kept (left_behind listens s).state
   kept_left (query l) s a =
-      change_if (has_listener s l.key) (nothing_forgotten s) (key_left l.key s) a (kept_forgotten s (is_for_key l.key) (find (is_for_key l.key) s.fetches) refl a)
+      change_if (has_listener s l.key) (nothing_forgotten s) (key_left l.key s) a (kept_forgotten s l.key (find (is_for_key l.key) s.fetches) refl a)
   kept_left (mutation ticket) s a = a
 
   kept_where_live : (peer id line : ℕ) (took_out : Bool) (s : GatewayState O) (live : Option (LiveOperation O)) → Kept s → Kept (torn_where_live peer id line took_out s live).state
@@ -183,85 +248,106 @@ module _ {O : Type 0} (P : Saying O) (k : Keeps P) (m : Meaning O) where
 
   -- ---- responses
 
-  -- it holds when the ticket has got its last content, whichever
-  abbrev KeptAtEnd : ℕ → GatewayState O → Type 0
-  KeptAtEnd ticket s = (writes : List Write) (kind : Kind) → P (ended_with s.history ticket writes kind) s.fetches s.mutations s.next_fetch
+  -- it holds when a ticket has got the last content that its operation has by what the command brings for a fetch
+  abbrev KeptAtEnd : OpenFetch O → O → Bool → ℕ → GatewayState O → Type 0
+  KeptAtEnd fetch operation mutates ticket s = (writes : List Write) (kind : Kind) (came : Came) → Brings now job.command fetch came
+      → held_by m operation mutates came ≡ record { kind = kind; finished = true; writes = writes }
+      → P (ended_with s.history ticket writes kind) s.fetches s.mutations s.next_fetch
 
-  kept_query_written : (fetch : OpenFetch O) (key : ℕ) (errors : Value) (s : GatewayState O) (written : Result (List Write) (List ℕ)) → KeptAtEnd fetch.ticket s → Kept (query_written m fetch key errors s written).state
-  kept_query_written fetch key errors s (Ok writes) e = e writes Final
-  kept_query_written fetch key errors s (Err path) e = e [] Empty
+  -- the command brings this answer for the fetch, if an answer is what came
+  abbrev Answers : OpenFetch O → Outcome → Type 0
+  Answers fetch o = (body errors : Value) → o ≡ outcome.Body body errors → Brings now job.command fetch (answered body errors)
 
-  kept_query_answered : (fetch : OpenFetch O) (key : ℕ) (s : GatewayState O) (o : Outcome) → KeptAtEnd fetch.ticket s → Kept (query_answered m fetch key s o).state
-  kept_query_answered fetch key s (outcome.Body answer errors) e = kept_query_written fetch key errors s (m.written fetch.operation answer errors) e
-  kept_query_answered fetch key s (outcome.Bad fault) e = e [] Empty
+  kept_query_written : (fetch : OpenFetch O) (key : ℕ) (body errors : Value) (s : GatewayState O) (written : Result (List Write) (List ℕ)) → m.written fetch.operation body errors ≡ written
+      → Brings now job.command fetch (answered body errors) → KeptAtEnd fetch fetch.operation false fetch.ticket s → Kept (query_written m fetch key errors s written).state
+  kept_query_written fetch key body errors s (Ok writes) is brings e = e writes Final (answered body errors) brings (ap (held_after m fetch.operation false body) is)
+  kept_query_written fetch key body errors s (Err path) is brings e = e [] Empty (answered body errors) brings (ap (held_after m fetch.operation false body) is)
+
+  kept_query_answered : (fetch : OpenFetch O) (key : ℕ) (s : GatewayState O) (o : Outcome) → Answers fetch o → KeptAtEnd fetch fetch.operation false fetch.ticket s → Kept (query_answered m fetch key s o).state
+  kept_query_answered fetch key s (outcome.Body body errors) brings e =
+      kept_query_written fetch key body errors s (m.written fetch.operation body errors) refl (brings body errors refl) e
+  kept_query_answered fetch key s (outcome.Bad fault) brings e = e [] Empty no_answer tt refl
 
   kept_done : (row : Option ℕ) (s : GatewayState O) → Kept s → Kept (row_done row s)
   kept_done None s a = a
   kept_done (Some row) s a = a
 
-  -- it holds when the mutation is over, whatever its ticket got
-  abbrev KeptWhenOver : PendingMutation O → GatewayState O → Type 0
-  KeptWhenOver pending s = KeptAtEnd pending.ticket (without_mutation pending.ticket s)
+  -- it holds when the mutation is over, by what the command brings for its fetch
+  abbrev KeptWhenOver : OpenFetch O → PendingMutation O → GatewayState O → Type 0
+  KeptWhenOver fetch pending s = KeptAtEnd fetch pending.operation true pending.ticket (without_mutation pending.ticket s)
 
-  kept_over : (pending : PendingMutation O) (turn : LiveOperation O → Turn O) (writes : List Write) (kind : Kind) (s : GatewayState O) → KeptWhenOver pending s
+  kept_over : (pending : PendingMutation O) (turn : LiveOperation O → Turn O) (writes : List Write) (kind : Kind) (s : GatewayState O)
+      → P (ended_with s.history pending.ticket writes kind) s.fetches (without_ticket pending.ticket s.mutations) s.next_fetch
       → Kept (over pending turn (record s { history = ended_with s.history pending.ticket writes kind })).state
-  kept_over pending turn writes kind s e = kept_done pending.row (without_mutation pending.ticket (record s { history = ended_with s.history pending.ticket writes kind })) (e writes kind)
+  kept_over pending turn writes kind s e = kept_done pending.row (without_mutation pending.ticket (record s { history = ended_with s.history pending.ticket writes kind })) e
 
-  kept_failed : (pending : PendingMutation O) (ending : Ending) (s : GatewayState O) → KeptWhenOver pending s → Kept (mutation_failed m pending ending s).state
-  kept_failed pending ending s e = kept_over pending (faulted m ending) [] Empty s e
+  kept_failed : (fetch : OpenFetch O) (pending : PendingMutation O) (ending : Ending) (s : GatewayState O) → KeptWhenOver fetch pending s → Kept (mutation_failed m pending ending s).state
+  kept_failed fetch pending ending s e = kept_over pending (faulted m ending) [] Empty s (e [] Empty no_answer tt refl)
 
-  kept_written : (pending : PendingMutation O) (answer errors : Value) (s : GatewayState O) (written : Result (List Write) (List ℕ)) → KeptWhenOver pending s → Kept (mutation_written m pending answer errors s written).state
-  kept_written pending answer errors s (Ok writes) e = kept_over pending (answer_turn m pending.operation answer errors) (writes ++ m.updates pending.operation answer) Final s e
-  kept_written pending answer errors s (Err path) e = kept_failed pending (Outside (F4 path)) s e
+  kept_written : (fetch : OpenFetch O) (pending : PendingMutation O) (body errors : Value) (s : GatewayState O) (written : Result (List Write) (List ℕ)) → m.written pending.operation body errors ≡ written
+      → Brings now job.command fetch (answered body errors) → KeptWhenOver fetch pending s → Kept (mutation_written m pending body errors s written).state
+  kept_written fetch pending body errors s (Ok writes) is brings e =
+      let all = writes ++ m.updates pending.operation body in
+      kept_over pending (answer_turn m pending.operation body errors) all Final s (e all Final (answered body errors) brings (ap (held_after m pending.operation true body) is))
+  kept_written fetch pending body errors s (Err path) is brings e =
+      kept_over pending (faulted m (Outside (F4 path))) [] Empty s (e [] Empty (answered body errors) brings (ap (held_after m pending.operation true body) is))
 
   kept_queued : (pending : PendingMutation O) (identity : Identity) (s : GatewayState O) → Kept s → Kept (mutation_queued pending identity s).state
   kept_queued pending identity s a = k.rowed s.history s.fetches s.mutations s.next_fetch pending.ticket (s.rows.greatest + 1) a
 
-  kept_put : (pending : PendingMutation O) (identity : Identity) (s : GatewayState O) → Kept s → KeptWhenOver pending s → Kept (mutation_put m pending identity s).state
-  kept_put pending identity s a e =
+  kept_put : (fetch : OpenFetch O) (pending : PendingMutation O) (identity : Identity) (s : GatewayState O) → Kept s → KeptWhenOver fetch pending s → Kept (mutation_put m pending identity s).state
+  kept_put fetch pending identity s a e =
       change_if (has_row_number s.rows && is_full s.rows identity) (mutation_failed m pending QueueFull s) (mutation_queued pending identity s)
-      (kept_failed pending QueueFull s e) (kept_queued pending identity s a)
+      (kept_failed fetch pending QueueFull s e) (kept_queued pending identity s a)
 
-  kept_unreached : (pending : PendingMutation O) (row : Option ℕ) (s : GatewayState O) → Kept s → KeptWhenOver pending s → Kept (mutation_unreached m pending row s).state
-  kept_unreached pending (Some row) s a e = a
-  kept_unreached pending None s a e =
+  kept_unreached : (fetch : OpenFetch O) (pending : PendingMutation O) (row : Option ℕ) (s : GatewayState O) → Kept s → KeptWhenOver fetch pending s → Kept (mutation_unreached m pending row s).state
+  kept_unreached fetch pending (Some row) s a e = a
+  kept_unreached fetch pending None s a e =
       change_if (is_some (m.guess pending.operation)) (mutation_put m pending (m.identity pending.operation) s) (mutation_failed m pending (Outside F6) s)
-      (kept_put pending (m.identity pending.operation) s a e) (kept_failed pending (Outside F6) s e)
+      (kept_put fetch pending (m.identity pending.operation) s a e) (kept_failed fetch pending (Outside F6) s e)
 
-  kept_ended : (pending : PendingMutation O) (s : GatewayState O) (fault : Fault) → Kept s → KeptWhenOver pending s → Kept (mutation_ended m pending s fault).state
-  kept_ended pending s F6 a e = kept_unreached pending pending.row s a e
-  kept_ended pending s F1 a e = kept_failed pending (Outside F1) s e
-  kept_ended pending s F2 a e = kept_failed pending (Outside F2) s e
-  kept_ended pending s (F3 path) a e = kept_failed pending (Outside (F3 path)) s e
-  kept_ended pending s (F4 path) a e = kept_failed pending (Outside (F4 path)) s e
-  kept_ended pending s (F5 status) a e = kept_failed pending (Outside (F5 status)) s e
-  kept_ended pending s F7 a e = kept_failed pending (Outside F7) s e
-  kept_ended pending s F8 a e = kept_failed pending (Outside F8) s e
+  kept_ended : (fetch : OpenFetch O) (pending : PendingMutation O) (s : GatewayState O) (fault : Fault) → Kept s → KeptWhenOver fetch pending s → Kept (mutation_ended m pending s fault).state
+  kept_ended fetch pending s F6 a e = kept_unreached fetch pending pending.row s a e
+  kept_ended fetch pending s F1 a e = kept_failed fetch pending (Outside F1) s e
+  kept_ended fetch pending s F2 a e = kept_failed fetch pending (Outside F2) s e
+  kept_ended fetch pending s (F3 path) a e = kept_failed fetch pending (Outside (F3 path)) s e
+  kept_ended fetch pending s (F4 path) a e = kept_failed fetch pending (Outside (F4 path)) s e
+  kept_ended fetch pending s (F5 status) a e = kept_failed fetch pending (Outside (F5 status)) s e
+  kept_ended fetch pending s F7 a e = kept_failed fetch pending (Outside F7) s e
+  kept_ended fetch pending s F8 a e = kept_failed fetch pending (Outside F8) s e
 
-  kept_mutation_answered : (pending : PendingMutation O) (s : GatewayState O) (o : Outcome) → Kept s → KeptWhenOver pending s → Kept (mutation_answered m pending s o).state
-  kept_mutation_answered pending s (outcome.Body answer errors) a e = kept_written pending answer errors s (m.written pending.operation answer errors) e
-  kept_mutation_answered pending s (outcome.Bad fault) a e = kept_ended pending s fault a e
+  kept_mutation_answered : (fetch : OpenFetch O) (pending : PendingMutation O) (s : GatewayState O) (o : Outcome) → Answers fetch o → Kept s → KeptWhenOver fetch pending s → Kept (mutation_answered m pending s o).state
+  kept_mutation_answered fetch pending s (outcome.Body body errors) brings a e =
+      kept_written fetch pending body errors s (m.written pending.operation body errors) refl (brings body errors refl) e
+  kept_mutation_answered fetch pending s (outcome.Bad fault) brings a e = kept_ended fetch pending s fault a e
 
-  kept_pending : (o : Outcome) (s : GatewayState O) (ticket : ℕ) (pending : Option (PendingMutation O)) → pending_of ticket s ≡ pending → Kept s
-      → ((found : PendingMutation O) → pending_of ticket s ≡ Some found → KeptWhenOver found s)
+  kept_pending : (fetch : OpenFetch O) (o : Outcome) (s : GatewayState O) (pending : Option (PendingMutation O)) → pending_of fetch.ticket s ≡ pending → Answers fetch o → Kept s
+      → ((found : PendingMutation O) → pending_of fetch.ticket s ≡ Some found → KeptWhenOver fetch found s)
       → Kept (option_map_or (λ found. mutation_answered m found s o) pending (followed_by (unmoved s) stops)).state
-  kept_pending o s ticket (Some pending) found a e = kept_mutation_answered pending s o a (e pending found)
-  kept_pending o s ticket None found a e = a
+  kept_pending fetch o s (Some pending) found brings a e = kept_mutation_answered fetch pending s o brings a (e pending found)
+  kept_pending fetch o s None found brings a e = a
 
   -- the answer to an open fetch, which is over then
-  kept_fetch : (number : ℕ) (fetch : OpenFetch O) (o : Outcome) (s : GatewayState O) (key : Option ℕ) → find (λ other. other.number == number) s.fetches ≡ Some fetch → fetch.key ≡ key → Kept s
+  kept_fetch : (number : ℕ) (fetch : OpenFetch O) (o : Outcome) (s : GatewayState O) (key : Option ℕ) → find (λ other. other.number == number) s.fetches ≡ Some fetch → fetch.key ≡ key → Answers fetch o → Kept s
       → Kept (fetch_answered m fetch o (closed fetch.number s) key).state
-  kept_fetch number fetch o s (Some key) found e a =
-      kept_query_answered fetch key (closed fetch.number s) o
-      (λ writes kind. k.ended s.history s.fetches s.mutations s.next_fetch (λ (other : OpenFetch O). other.number == number) fetch writes kind found a)
-  kept_fetch number fetch o s None found e a =
-      kept_pending o (closed fetch.number s) fetch.ticket (pending_of fetch.ticket s) refl
+  kept_fetch number fetch o s (Some key) found e brings a =
+      kept_query_answered fetch key (closed fetch.number s) o brings
+      (λ writes kind came brought held. k.ended s.history s.fetches s.mutations s.next_fetch (λ (other : OpenFetch O). other.number == number) fetch writes kind came found (ap is_some e) brought held a)
+  kept_fetch number fetch o s None found e brings a =
+      kept_pending fetch o (closed fetch.number s) (pending_of fetch.ticket s) refl brings
       (k.unanswered s.history s.fetches s.mutations s.next_fetch (λ (other : OpenFetch O). other.number == number) fetch found e a)
-      (λ pending waits writes kind. k.over s.history s.fetches s.mutations s.next_fetch (λ (other : OpenFetch O). other.number == number) fetch pending writes kind found waits a)
+      (λ pending waits writes kind came brought held. k.over s.history s.fetches s.mutations s.next_fetch (λ (other : OpenFetch O). other.number == number) fetch pending writes kind came found waits brought held a)
 
-  kept_open : (peer line number : ℕ) (o : Outcome) (s : GatewayState O) (fetch : Option (OpenFetch O)) → find (λ other. other.number == number) s.fetches ≡ fetch → Kept s → Kept (answered_where_open m peer line o s fetch).state
-  kept_open peer line number o s None found a = a
-  kept_open peer line number o s (Some fetch) found a = kept_fetch number fetch o s fetch.key found refl a
+  -- a response that meets the state brings its answer for the fetch that it finds
+  answers_found : (peer number line : ℕ) (o : Outcome) (fetch : OpenFetch O) → out-Command job.command ≡ Command-F.Respond peer number line o → find (λ other. other.number == number) now.fetches ≡ Some fetch → Answers fetch o
+  answers_found peer number line o fetch is found body errors given =
+      let same : fetch.number ≡ number = true-eqb fetch.number number (sym (found_passes (λ (other : OpenFetch O). other.number == number) now.fetches fetch found)) in
+      let here : IsOpen fetch now = subst (λ (n : ℕ). find (λ (other : OpenFetch O). other.number == n) now.fetches ≡ Some fetch) (sym same) found in
+      (here, subst (λ (command : Command-F Command Dispatch). IsAnswer command fetch.number body errors) (sym is) (sym same, given))
+
+  kept_open : (peer line number : ℕ) (o : Outcome) (fetch : Option (OpenFetch O)) → out-Command job.command ≡ Command-F.Respond peer number line o → find (λ other. other.number == number) now.fetches ≡ fetch → Kept now → Kept (answered_where_open m peer line o now fetch).state
+  kept_open peer line number o None is found a = a
+  kept_open peer line number o (Some fetch) is found a = kept_fetch number fetch o now fetch.key found refl (answers_found peer number line o fetch is found) a
 
   -- ---- rows
 
@@ -280,25 +366,28 @@ module _ {O : Type 0} (P : Saying O) (k : Keeps P) (m : Meaning O) where
       let step = option_map_or (sent_again m s) (find (is_in_row row.seq) s.mutations) (unmoved s) in
       kept_rows rows step.state (kept_sent_again s (is_in_row row.seq) (find (is_in_row row.seq) s.mutations) refl a)
 
-  -- rows that are offered at the opening
-  pub kept_by_offers : (offers : List (Offered O)) (s : GatewayState O) → Kept s → Kept (all_offered m offers s).state
-  kept_by_offers [] s a = a
-  kept_by_offers (offer ∷ offers) s a =
-      kept_by_offers offers (begun_and_sent m offer.1 (Some offer.0) s).state (kept_begun offer.1 (Some offer.0) s (m.guess offer.1) a)
-
   -- ---- commands
 
-  kept_step : (took_out : Bool) (s : GatewayState O) (command : Command-F Command Dispatch) → Kept s → Kept (step_of m took_out s command).state
-  kept_step took_out s (Command-F.Dispatch dispatch) a =
-      kept_concluded (dispatched m dispatch (out-Dispatch dispatch) s) (kept_dispatched dispatch (out-Dispatch dispatch) s a)
-  kept_step took_out s (Command-F.Teardown peer id line) a =
-      kept_concluded (teardown peer id line took_out s) (kept_where_live peer id line took_out s (find (is_named peer id) s.live) a)
-  kept_step took_out s (Command-F.Respond peer fetch line o) a =
-      kept_concluded (response m peer fetch line o s) (kept_open peer line fetch o s (find (λ (other : OpenFetch O). other.number == fetch) s.fetches) refl a)
-  kept_step took_out s Command-F.Online a = kept_rows s.rows.rows s a
-  kept_step took_out s (Command-F.Layers peer) a = a
-  kept_step took_out s (Command-F.Flat peer) a = a
-  kept_step took_out s (Command-F.Gone peer) a = kept_all_torn (filter (λ (live : LiveOperation O). live.peer == peer) s.live) s a
+  kept_step : (command : Command-F Command Dispatch) → out-Command job.command ≡ command → Kept now → Kept (step_of m job.took_out now command).state
+  kept_step (Command-F.Dispatch dispatch) is a =
+      kept_concluded (dispatched m dispatch (out-Dispatch dispatch) now) (kept_dispatched dispatch (out-Dispatch dispatch) now a)
+  kept_step (Command-F.Teardown peer id line) is a =
+      kept_concluded (teardown peer id line job.took_out now) (kept_where_live peer id line job.took_out now (find (is_named peer id) now.live) a)
+  kept_step (Command-F.Respond peer fetch line o) is a =
+      kept_concluded (response m peer fetch line o now) (kept_open peer line fetch o (find (λ (other : OpenFetch O). other.number == fetch) now.fetches) is refl a)
+  kept_step Command-F.Online is a = kept_rows now.rows.rows now a
+  kept_step (Command-F.Layers peer) is a = a
+  kept_step (Command-F.Flat peer) is a = a
+  kept_step (Command-F.Gone peer) is a = kept_all_torn (filter (λ (live : LiveOperation O). live.peer == peer) now.live) now a
 
-  pub kept_by_command : (job : Job) (s : GatewayState O) → Kept s → Kept (command_step m job s).state
-  kept_by_command job s a = kept_step job.took_out s (out-Command job.command) a
+  -- what is kept by each change that the command may make to the state
+  pub results_kept_by_command : Kept now → Kept (command_step m job now).state
+  results_kept_by_command a = kept_step (out-Command job.command) refl a
+
+module _ {O : Type 0} (P : Saying O) (k : Keeps P) (m : Meaning O) where
+  -- rows that are offered at the opening
+  pub kept_by_offers : (offers : List (Offered O)) (s : GatewayState O) → KeptIn P s → KeptIn P (all_offered m offers s).state
+  kept_by_offers offers s a = kept_by_rows P m (keeps_mutation P k m) offers s a
+
+  pub kept_by_command : (job : Job) (s : GatewayState O) → KeptIn P s → KeptIn P (command_step m job s).state
+  kept_by_command job s a = results_kept_by_command P m s job (keeps_results P k m s job.command) a

@@ -2,6 +2,8 @@ ghost use Rattle.machine_laws.specs.Tickets.{TicketsInOrderAtFirst, TicketsInOrd
 ghost use Rattle.machine_laws.specs.Answers.{FinalAnswersClose};
 ghost use Rattle.machine_laws.specs.Endings.{EveryRunEnds};
 ghost use Rattle.machine_laws.specs.Closings.{TicketsApartAtFirst, TicketsApart, QueriesAlone, MutationsAlone, QueriesClose, MutationsClose, OpenQueriesClose, OpenMutationsClose, TeardownsClose, FullQueuesClose, TicketsApartInRuns};
+ghost use Rattle.machine_laws.specs.Results.{ResultsAtFirst, ResultsGoOn, RunsHaveResults, OneMapOfResults};
+ghost use Rattle.machine_laws.specs.Listings.{CellsAreListed, OneListing};
 
 use machine_model::answers_close;
 
@@ -53,4 +55,19 @@ pub fn open_fetches_close<O>()
 pub fn given_up_closes<O>()
     ensures teardown { TeardownsClose O }
     ensures queue { FullQueuesClose O }
+{}
+
+/// The cache is the map of what was sent under each ticket and of what came of it, so two runs with the
+/// same tickets and results have one map, whatever the order.
+pub fn one_map_of_results<O>()
+    ensures first { ResultsAtFirst O }
+    ensures command { ResultsGoOn O }
+    ensures run { RunsHaveResults O }
+    ensures map { OneMapOfResults O }
+{}
+
+/// What `flat` is answered with is the listing of the flattened map, and there is no other.
+pub fn cells_are_listed()
+    ensures cells { CellsAreListed }
+    ensures one { OneListing }
 {}

@@ -9,6 +9,6 @@
 mod laws;
 
 pub use laws::{
-    every_run_ends, fetches_alone, final_answers_close, given_up_closes, open_fetches_close,
-    tickets_apart, tickets_in_order, what_ends_closes,
+    cells_are_listed, every_run_ends, fetches_alone, final_answers_close, given_up_closes,
+    one_map_of_results, open_fetches_close, tickets_apart, tickets_in_order, what_ends_closes,
 };
