@@ -1,2 +1,5 @@
 mod Cuts
+mod CodeLaws
+mod TextLaws
+mod SortedLaws
 mod FieldLaws
