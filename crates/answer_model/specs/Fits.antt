@@ -1,4 +1,5 @@
--- Which values of an answer fit a leaf type with its wrappers, and what they become (after GraphQL October 2021, 3.5, 3.9, 3.11 and 3.12, Result Coercion; whole numbers of any size are this project's own).
+-- Which values of an answer fit a leaf type with its wrappers, and what they become (after GraphQL October 2021,
+-- 3.5, 3.9, 3.11 and 3.12, Result Coercion; whole numbers of any size are this project's own).
 use Rattle.std.specs.Prelude.{ℕ, Bool, true, false, ◌&&◌, ◌||◌, List, [], ◌∷◌, Option, Some, None, cond, codes, bytes_eq}
 use Rattle.std.specs.List.{enumerate_from}
 use Rattle.std.specs.Option.{option_map_or, ok_or}
@@ -22,9 +23,11 @@ use Rattle.answer_model.specs.Paths.{each}
 abbrev pub Fitted : Type 0
 Fitted = Result Value (List ℕ)
 
+-- how a type takes values: for each value what it becomes there, or which part of it doesn't fit
 abbrev pub Fitting : Type 0
 Fitting = Value → Fitted
 
+-- whether a type is an enum
 abbrev pub is_enum : TypeForm → Bool
 is_enum (form.Enum values) = true
 is_enum _ = false
@@ -33,6 +36,7 @@ is_enum _ = false
 abbrev pub names_enum : Schema → List ℕ → Bool
 names_enum schema name = option_map_or (λ t. is_enum t.form) (entry schema.types name) false
 
+-- whether a scalar of this name takes whole numbers: Int, Float, ID, and each scalar that isn't built in
 abbrev pub scalar_takes_whole : List ℕ → Bool
 scalar_takes_whole name = bytes_eq name (codes "Int") || bytes_eq name (codes "Float") || bytes_eq name (codes "ID") || is_custom name
 
@@ -44,6 +48,7 @@ takes_whole schema name = names_scalar schema name && scalar_takes_whole name
 abbrev pub takes_text : Schema → List ℕ → Bool
 takes_text schema name = takes_string schema name || names_enum schema name
 
+-- this value where the type takes it, and nothing otherwise
 abbrev pub itself_if : Bool → Value → Option Value
 itself_if takes value = cond takes (Some value) None
 
@@ -60,6 +65,7 @@ leaf_value schema name value (Value-F.Obj members) = itself_if (takes_any schema
 abbrev pub fitted_null : Bool → Fitted
 fitted_null required = cond required (Err []) (Ok null_value)
 
+-- at a named type null fits where the type is nullable, and any other value as the scalar or the enum takes it
 abbrev pub named_fit : Schema → List ℕ → Bool → Value → Value-F Value → Fitted
 named_fit schema name required value Value-F.Null = fitted_null required
 named_fit schema name required value other = ok_or (leaf_value schema name value other) []
@@ -74,6 +80,7 @@ list_fit fit required Value-F.Null = fitted_null required
 list_fit fit required (Value-F.List items) = result_map_both list_value (λ places. places) (each (item_fit fit) (enumerate_from 0 items))
 list_fit fit required _ = Err []
 
+-- one level of a type: a named type, or a list type, where it is known how its item type takes values
 abbrev pub fit_step : Schema → TypeRef-F Fitting → Fitting
 fit_step schema (TypeRef-F.Named name required) value = named_fit schema name required value (out-Value value)
 fit_step schema (TypeRef-F.List item required) value = list_fit item required (out-Value value)

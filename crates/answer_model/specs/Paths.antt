@@ -20,6 +20,7 @@ Path = List Step
 abbrev pub at_places : Path → List ℕ → Path
 at_places path places = path ++ map Index places
 
+-- a step as it is told: the response key itself, or the index in decimal digits
 abbrev pub step_text : Step → List ℕ
 step_text (Key key) = key
 step_text (Index index) = decimal index
@@ -53,10 +54,12 @@ begins [] steps = true
 begins (step ∷ path) [] = false
 begins (step ∷ path) (value ∷ steps) = is_step step (out-Value value) && begins path steps
 
+-- the items of a value that is a list, and nothing for any other value
 abbrev pub items_in : Value-F Value → Option (List Value)
 items_in (Value-F.List items) = Some items
 items_in _ = None
 
+-- the members of a value that is an object, and nothing for any other value
 abbrev pub members_in : Value-F Value → Option (List (List ℕ × Value))
 members_in (Value-F.Obj members) = Some members
 members_in _ = None

@@ -1,4 +1,5 @@
--- The reading of an operation from a map of cells (GraphQL October 2021, 6.4.4, Handling Field Errors; partial results after urql's Graphcache; which readings are a miss is this project's own).
+-- The reading of an operation from a map of cells (GraphQL October 2021, 6.4.4, Handling Field Errors;
+-- partial results after urql's Graphcache; which readings are a miss is this project's own).
 use Rattle.std.specs.Prelude.{ℕ, zero, suc, Bool, true, false, not, ◌&&◌, ◌||◌, List, [], ◌∷◌, map, Option, Some, None, cond, codes, is_some}
 use Rattle.std.specs.List.{list_any, list_all, flat_map, zip}
 use Rattle.std.specs.Option.{option_map, option_map_or, option_and_then}
@@ -36,9 +37,11 @@ pub record Found : Type 0 where
   pub partial : Bool
   pub visited : Visits
 
+-- this value is there, nothing in it is absent, and no cell was looked at
 abbrev pub present : Value → Found
 present value = record { value = Some value; partial = false; visited = [] }
 
+-- nothing is there, and no cell was looked at
 abbrev pub absent : Found
 absent = record { value = None; partial = false; visited = [] }
 
@@ -65,21 +68,24 @@ together value founds = record {
 
 -- ---- links
 
--- whether a link has the shape of a type, with nulls at nullable types alone
+-- at a named type a link leads to one object, or is null where the type is nullable
 abbrev pub has_named_shape : Bool → Link-F Link → Bool
 has_named_shape required Link-F.Null = not required
 has_named_shape required (Link-F.Entity entity) = true
 has_named_shape required (Link-F.List links) = false
 
+-- at a list type a link is a list whose links all have the item type's shape, or is null where the type is nullable
 abbrev pub has_list_shape : (Link → Bool) → Bool → Link-F Link → Bool
 has_list_shape has_shape required Link-F.Null = not required
 has_list_shape has_shape required (Link-F.Entity entity) = false
 has_list_shape has_shape required (Link-F.List links) = list_all has_shape links
 
+-- one level of a type: a named type, or a list type, where it is known which links have the shape of its item type
 abbrev pub shape_step : TypeRef-F (Link → Bool) → Link → Bool
 shape_step (TypeRef-F.Named name required) link = has_named_shape required (out-Link link)
 shape_step (TypeRef-F.List item required) link = has_list_shape item required (out-Link link)
 
+-- whether a link has the shape of a type, with nulls at nullable types alone
 abbrev pub has_shape : TypeRef → Link → Bool
 has_shape = fold-TypeRef (Link → Bool) shape_step
 
@@ -95,7 +101,8 @@ type_in_cell schema parent None = None
 type_in_cell schema parent (Some (cell.Leaf value)) = type_told schema parent value
 type_in_cell schema parent (Some (cell.Link link)) = None
 
--- an object below the root is looked at by its `__typename` first; without the name of a possible type it is absent, and nothing more of it is looked at
+-- an object below the root is looked at by its `__typename` first; without the name of a possible type it is absent,
+-- and nothing more of it is looked at
 abbrev pub entity_found : FieldsFound → Schema → CellMap → SetId → TypeId → List ℕ → Found
 entity_found follow schema cells sets parent entity =
     looked entity (codes "__typename")
@@ -105,19 +112,23 @@ entity_found follow schema cells sets parent entity =
 abbrev pub Linked : Type 0
 Linked = Bool × (Link → Found)
 
+-- at a named type a null link is null, a link to an object is what `entity` finds by its key, and a list is absent
 abbrev pub named_found : (List ℕ → Found) → Link-F Link → Found
 named_found entity Link-F.Null = present null_value
 named_found entity (Link-F.Entity key) = entity key
 named_found entity (Link-F.List links) = absent
 
+-- an item of a list, by its link: one that is absent is null where the item type is nullable, and makes the reading partial
 abbrev pub item_found : Linked → Link → Found
 item_found item link = or_null item.0 (item.1 link)
 
+-- at a list type a null link is null, a list is all its items together, and a link to an object is absent
 abbrev pub list_found : Linked → Link-F Link → Found
 list_found item Link-F.Null = present null_value
 list_found item (Link-F.Entity key) = absent
 list_found item (Link-F.List links) = together list_value (map (item_found item) links)
 
+-- one level of a type: whether it is Non-Null, and what is found there by a link, where `entity` finds objects by their keys
 abbrev pub link_step : (List ℕ → Found) → TypeRef-F Linked → Linked
 link_step entity (TypeRef-F.Named name required) = (required, λ link. named_found entity (out-Link link))
 link_step entity (TypeRef-F.List item required) = (required, λ link. list_found item (out-Link link))
@@ -128,6 +139,7 @@ link_found entity type link = (fold-TypeRef Linked (link_step entity) type).1 li
 
 -- ---- fields
 
+-- a null at a nullable type; nothing for a null at a Non-Null type, and nothing for any other value
 abbrev pub null_leaf : TypeRef → Value-F Value → Option Value
 null_leaf type Value-F.Null = cond (is_non_null type) None (Some null_value)
 null_leaf type _ = None
@@ -144,10 +156,12 @@ leaf_found schema type None = absent
 leaf_found schema type (Some (cell.Leaf value)) = found_if (result_ok (fitted schema type value))
 leaf_found schema type (Some (cell.Link link)) = absent
 
+-- a field's cell read by the field's type: as a null or a link where the type is composite, and as a leaf otherwise
 abbrev pub cell_found : FieldsFound → Schema → CellMap → Asked → TypeRef → Option Cell → Found
 cell_found follow schema cells asked type at =
     option_map_or (λ parent. composite_found (entity_found follow schema cells asked.sets parent) type at) (parent_below schema type) (leaf_found schema type at)
 
+-- a field: its cell is looked at by the field's key and read by the field's type; without a type it is absent
 abbrev pub field_found : FieldsFound → Schema → CellMap → List ℕ → Asked → Found
 field_found follow schema cells entity asked =
     looked entity (field_key asked)
@@ -166,9 +180,11 @@ is_required asked = option_map_or is_non_null asked.type true
 abbrev pub Position : Type 0
 Position = Asked × Found
 
+-- a field that is asked of an object, with what is found at its position
 abbrev pub position_of : FieldsFound → Schema → CellMap → ObjectType → List ℕ → Asked → Position
 position_of follow schema cells type entity asked = (asked, position_found follow schema cells type entity asked)
 
+-- what a position adds to its object: a field that is absent is null where its type is nullable, and makes the reading partial
 abbrev pub member_found : Position → Found
 member_found position = or_null (is_required position.0) position.1
 
@@ -184,6 +200,7 @@ of_positions positions = together (under_keys positions) (map member_found posit
 abbrev pub PositionsFound : Type 0
 PositionsFound = SetId → ObjectType → List ℕ → List Position
 
+-- what is found of an object, where `positions` tells what is at each position that sets ask of it
 abbrev pub found_by : PositionsFound → FieldsFound
 found_by positions sets type entity = of_positions (positions sets type entity)
 
@@ -199,6 +216,7 @@ positions_within (suc n) execution cells sets type entity =
 abbrev pub has_something : Position → Bool
 has_something position = not (is_typename position.0.name) && is_some position.1.value
 
+-- a value in which something is absent: a partial reading where some root field but `__typename` is there, and else a miss
 abbrev pub partial_reading : List Position → Value → Reading
 partial_reading positions value = cond (list_any has_something positions) (Partial value) Miss
 
@@ -211,9 +229,11 @@ reading_of positions found =
 abbrev pub ReadAll : Type 0
 ReadAll = Reading × Visits
 
+-- the reading that the positions of the root give, and the cells that were looked at for them
 abbrev pub read_positions : List Position → ReadAll
 read_positions positions = (reading_of positions (of_positions positions), (of_positions positions).visited)
 
+-- the reading of the operation's own set at its root, whose key is the name of the root's type
 abbrev pub read_root : Execution → CellMap → ObjectType → ReadAll
 read_root execution cells type = read_positions (positions_within deepest execution cells (root_sets execution) type (root_text type.1))
 

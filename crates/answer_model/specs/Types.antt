@@ -1,4 +1,4 @@
--- The types of objects in answers and in the cache, told by `__typename` (GraphQL October 2021, 4.4).
+-- The types of objects in answers and in the cache, told by `__typename` (GraphQL October 2021, 4.1).
 use Rattle.std.specs.Prelude.{ℕ, List, Option, Some, None, cond, codes}
 use Rattle.std.specs.Option.{option_map, option_and_then}
 use Rattle.gql_value.specs.declared.value.Value.{Value, out-Value}
@@ -14,6 +14,7 @@ use Rattle.execution_model.specs.Values.{Pairs}
 abbrev pub ObjectType : Type 0
 ObjectType = TypeId × List ℕ
 
+-- the text of a value that is a text, and nothing for any other value
 abbrev pub text_in : Value-F Value → Option (List ℕ)
 text_in (Value-F.Text text) = Some text
 text_in _ = None
@@ -22,6 +23,7 @@ text_in _ = None
 abbrev pub text_of : Value → Option (List ℕ)
 text_of value = text_in (out-Value value)
 
+-- the type of this number and name, where it is an object type that is possible at the composite type `parent`
 abbrev pub possible : Schema → TypeId → List ℕ → TypeId → Option ObjectType
 possible schema parent name id = cond (is_possible_of schema id parent) (Some (id, name)) None
 

@@ -1,4 +1,5 @@
--- The writes of an answer (GraphQL October 2021, 6.4 and 7.1, after urql's Graphcache), or the first place where it doesn't fit what was asked, depth first.
+-- The writes of an answer (GraphQL October 2021, 6.4 and 7.1, after urql's Graphcache), or the first place
+-- where it doesn't fit what was asked, depth first.
 use Rattle.std.specs.Prelude.{ℕ, zero, suc, Bool, true, false, List, [], ◌∷◌, ◌++◌, map, Option, None, cond, codes, bytes_eq, unwrap_or}
 use Rattle.std.specs.List.{enumerate_from, filter_map, flat_map}
 use Rattle.std.specs.Option.{option_map, option_map_or, option_and_then}
@@ -68,9 +69,11 @@ path_of object asked = object.path ++ Key asked.key ∷ []
 abbrev pub own_write : Object → Write → List Write
 own_write object write = cond object.keeps (write ∷ []) []
 
+-- sets the field's own cell to this value or link
 abbrev pub set_cell : Object → Asked → Cell → List Write
 set_cell object asked value = own_write object (write.Set object.entity (field_key asked) value)
 
+-- empties the field's own cell, whatever was written there before
 abbrev pub drop_cell : Object → Asked → List Write
 drop_cell object asked = own_write object (write.Drop object.entity (field_key asked))
 
@@ -84,6 +87,7 @@ null_write answered object asked = cond (is_above_error answered.errors (path_of
 abbrev pub null_written : Answered → Object → Asked → TypeRef → Writes
 null_written answered object asked type = cond (is_non_null type) (Err (path_of object asked)) (Ok (null_write answered object asked))
 
+-- a leaf: its cell is set to what the value becomes at the type, or the place of the value or of the item in it that doesn't fit
 abbrev pub leaf_written : Schema → Object → Asked → TypeRef → Value → Writes
 leaf_written schema object asked type value =
     result_map_both (λ v. set_cell object asked (cell.Leaf v)) (at_places (path_of object asked)) (fitted schema type value)
@@ -127,6 +131,7 @@ entity_of answered field type places members =
     unwrap_or (object_key answered.keys type.1 (plain_members answered type field.asked.sets members))
     (embedded_text field.object.entity (field_key field.asked) places type.1)
 
+-- the object at these indexes of a field's lists; its fields have cells of their own
 abbrev pub object_of : Answered → Field → ObjectType → List ℕ → Pairs → Object
 object_of answered field type places members = record {
   type = type;
@@ -140,6 +145,7 @@ object_of answered field type places members = record {
 abbrev pub typename_write : Object → Write
 typename_write object = write.Set object.entity (codes "__typename") (cell.Leaf (text_value object.type.1))
 
+-- a link to an object, with the writes of its `__typename` and then of its fields, or the first place in it that doesn't fit
 abbrev pub object_linked : FieldsWrites → SetId → Object → Result Linked Path
 object_linked follow sets object =
     result_map_both (λ writes. record { link = link.Entity object.entity; writes = typename_write object ∷ writes }) (λ path. path) (follow sets object)
@@ -159,11 +165,13 @@ abbrev pub null_linked : Field → List ℕ → Bool → Result Linked Path
 null_linked field places required =
     cond required (Err (at_places (path_of field.object field.asked) places)) (Ok (record { link = link.Null; writes = [] }))
 
+-- at a named type null leads to a null link where it may stand, an object to a link to it, and any other value doesn't fit
 abbrev pub named_linked : FieldsWrites → Answered → Field → List ℕ → Bool → Value-F Value → Result Linked Path
 named_linked follow answered field places required Value-F.Null = null_linked field places required
 named_linked follow answered field places required (Value-F.Obj members) = members_linked follow answered field places members
 named_linked follow answered field places required _ = Err (at_places (path_of field.object field.asked) places)
 
+-- an item of a list, where its own index is put behind those that lead to the list
 abbrev pub item_linked : Linking → List ℕ → ℕ × Value → Result Linked Path
 item_linked item places value = item (places ++ value.0 ∷ []) value.1
 
@@ -171,11 +179,13 @@ item_linked item places value = item (places ++ value.0 ∷ []) value.1
 abbrev pub in_list : List Linked → Linked
 in_list items = record { link = link.List (map (λ l. l.link) items); writes = flat_map (λ l. l.writes) items }
 
+-- at a list type null leads to a null link where it may stand, a list to the links of its items, and any other value doesn't fit
 abbrev pub list_linked : Linking → Field → List ℕ → Bool → Value-F Value → Result Linked Path
 list_linked item field places required Value-F.Null = null_linked field places required
 list_linked item field places required (Value-F.List values) = result_map_both in_list (λ path. path) (each (item_linked item places) (enumerate_from 0 values))
 list_linked item field places required _ = Err (at_places (path_of field.object field.asked) places)
 
+-- one level of a composite field's type: the named type, or a list type, where it is known what its items lead to
 abbrev pub link_step : FieldsWrites → Answered → Field → TypeRef-F Linking → Linking
 link_step follow answered field (TypeRef-F.Named name required) places value = named_linked follow answered field places required (out-Value value)
 link_step follow answered field (TypeRef-F.List item required) places value = list_linked item field places required (out-Value value)
@@ -190,15 +200,18 @@ link_written object asked result = result_map_both (λ l. set_cell object asked 
 
 -- ---- fields
 
+-- a value that isn't null, at a field of the composite type `parent` in its wrappers: it writes a link, and then the objects in it
 abbrev pub composite_written : FieldsWrites → Answered → Object → Asked → TypeRef → Value → TypeId → Writes
 composite_written follow answered object asked type value parent =
     link_written object asked (linked follow answered (record { object = object; asked = asked; parent = parent }) type [] value)
 
+-- a value that isn't null, at a type: a link and its objects where the type is composite, and a leaf otherwise
 abbrev pub filled_written : FieldsWrites → Answered → Object → Asked → TypeRef → Value → Writes
 filled_written follow answered object asked type value =
     option_map_or (composite_written follow answered object asked type value) (parent_below answered.execution.schema type)
     (leaf_written answered.execution.schema object asked type value)
 
+-- a value at a type: null by whether it may stand there and an error explains it, any other value by what it holds
 abbrev pub typed_written : FieldsWrites → Answered → Object → Asked → TypeRef → Value → Value-F Value → Writes
 typed_written follow answered object asked type value Value-F.Null = null_written answered object asked type
 typed_written follow answered object asked type value _ = filled_written follow answered object asked type value
@@ -208,6 +221,7 @@ abbrev pub value_written : FieldsWrites → Answered → Object → Asked → Va
 value_written follow answered object asked value =
     option_map_or (λ type. typed_written follow answered object asked type value (out-Value value)) asked.type (Err (path_of object asked))
 
+-- the member of a field that is asked: for `__typename` the name of the object's type, for others a value at the field's type
 abbrev pub member_written : FieldsWrites → Answered → Object → Asked → Value → Writes
 member_written follow answered object asked value =
     cond (is_typename asked.name) (typename_written object asked value) (value_written follow answered object asked value)
@@ -231,6 +245,7 @@ keeps_root kind.Query = true
 keeps_root kind.Mutation = false
 keeps_root kind.Subscription = false
 
+-- the root of an answer: its key is the name of its type, and its fields have cells of their own in a query alone
 abbrev pub root_object : Execution → ObjectType → Pairs → Object
 root_object execution type members = record {
   type = type;
@@ -244,10 +259,12 @@ root_object execution type members = record {
 abbrev pub root_written : Answered → Pairs → ObjectType → Writes
 root_written answered members type = fields_written_within deepest answered (root_sets answered.execution) (root_object answered.execution type members)
 
+-- the writes of the members of `data`; where the schema has no root type for the operation, `data` itself doesn't fit
 abbrev pub root_members_written : Answered → Pairs → Writes
 root_members_written answered members =
     option_map_or (root_written answered members) (option_and_then (with_name answered.execution.schema) (root_type answered.execution)) (Err [])
 
+-- the writes of `data`: null has none, an object those of its members, and anything else doesn't fit
 abbrev pub data_written : Answered → Value-F Value → Writes
 data_written answered Value-F.Null = Ok []
 data_written answered (Value-F.Obj members) = root_members_written answered members

@@ -13,11 +13,13 @@ unfoldable pub fields_height : List (List ℕ × SchemaField) → ℕ
 fields_height [] = 0
 fields_height (f ∷ fs) = max (size-TypeRef f.1.field_type.type_ref) (fields_height fs)
 
+-- the greatest depth of the field types of an object type or an interface; 0 for any other type
 abbrev pub form_height : TypeForm → ℕ
 form_height (form.Object parts) = fields_height parts.fields
 form_height (form.Interface parts) = fields_height parts.fields
 form_height _ = 0
 
+-- the greatest depth of the field types of all these types
 unfoldable pub types_height : List NamedType → ℕ
 types_height [] = 0
 types_height (t ∷ ts) = max (form_height t.1.form) (types_height ts)

@@ -1,4 +1,4 @@
-//! What writing an answer and reading one share (GraphQL October 2021, 4.4, 6.4.3 and 7.1.2): which values
+//! What writing an answer and reading one share (GraphQL October 2021, 4.1, 6.4.3 and 7.1.2): which values
 //! fit a leaf type, the object type that a `__typename` tells, whether a link has the shape of a type, and
 //! places in an answer. It stands on the definitions of `answer_model`.
 //!

@@ -14,9 +14,11 @@ use Rattle.schema_rules.specs.Unsatisfied.{is_required}
 use Rattle.check_model.specs.Repeated.{stands_twice}
 use Rattle.check_model.specs.Sites.{Site, some_site}
 
+-- an argument that is given has the name of none that is defined
 abbrev pub is_undefined_argument : List (List ℕ × InputValue) → Argument → Bool
 is_undefined_argument defined argument = is_none (entry defined argument.name.text)
 
+-- a field or a directive is given an argument that isn't defined for it
 abbrev pub has_undefined_argument : Site → Bool
 has_undefined_argument (Site.Given defined arguments) = list_any (is_undefined_argument defined) arguments
 has_undefined_argument _ = false
@@ -25,9 +27,11 @@ has_undefined_argument _ = false
 abbrev pub breaks_argument_names : Schema → Document → Bool
 breaks_argument_names schema document = some_site has_undefined_argument schema document
 
+-- the names of the arguments that are given, as they stand
 abbrev pub argument_names : List Argument → List (List ℕ)
 argument_names arguments = map (λ a. a.name.text) arguments
 
+-- a field or a directive is given two arguments of one name
 abbrev pub has_doubled_argument : Site → Bool
 has_doubled_argument (Site.Given defined arguments) = stands_twice (argument_names arguments)
 has_doubled_argument _ = false
@@ -36,6 +40,7 @@ has_doubled_argument _ = false
 abbrev pub breaks_argument_uniqueness : Schema → Document → Bool
 breaks_argument_uniqueness schema document = some_site has_doubled_argument schema document
 
+-- a literal's value is null
 abbrev pub is_null_value : LiteralValue-F LiteralValue Literal ObjectField → Bool
 is_null_value LiteralValue-F.Null = true
 is_null_value _ = false
@@ -52,6 +57,7 @@ gives name argument = bytes_eq name argument.name.text && not (is_null argument.
 abbrev pub is_missing : List Argument → List ℕ × InputValue → Bool
 is_missing arguments defined = is_required defined.1 && not (list_any (gives defined.0) arguments)
 
+-- a field or a directive lacks an argument that it requires, or is given null for it
 abbrev pub has_missing_argument : Site → Bool
 has_missing_argument (Site.Given defined arguments) = list_any (is_missing arguments) defined
 has_missing_argument _ = false

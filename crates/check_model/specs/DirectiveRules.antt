@@ -13,6 +13,7 @@ use Rattle.check_model.specs.Sites.{Site, some_site}
 abbrev pub is_defined_directive : Schema → Directive → Bool
 is_defined_directive schema directive = is_built_in directive.name.text || is_some (entry schema.directives directive.name.text)
 
+-- one of the directives at a place is neither built in nor defined by the schema
 abbrev pub has_undefined_directive : Schema → Site → Bool
 has_undefined_directive schema (Site.Directed place directives) = list_any (λ d. not (is_defined_directive schema d)) directives
 has_undefined_directive schema _ = false

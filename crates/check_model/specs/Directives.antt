@@ -53,9 +53,11 @@ condition = record {
   default = None;
 }
 
+-- the arguments of `@skip` and of `@include`: `if: Boolean!` alone
 abbrev pub condition_arguments : List (List ℕ × InputValue)
 condition_arguments = (codes "if", condition) ∷ []
 
+-- whether a directive of the schema lists this location among those where it may stand
 abbrev pub has_location : Location → SchemaDirective → Bool
 has_location place directive = list_any (λ l. bytes_eq l.text (location_name place)) directive.locations
 

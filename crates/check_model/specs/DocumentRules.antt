@@ -11,6 +11,7 @@ use Rattle.check_model.specs.Spreads.{spread_names, spread_graph}
 use Rattle.digraph.specs.Walks.{Graph, has_circle, reached_from}
 use Rattle.check_model.specs.Repeated.{stands_twice}
 
+-- whether a definition is of the type system, and so can't be executed
 abbrev pub is_type_system : Definition → Bool
 is_type_system (definition.TypeSystem d) = true
 is_type_system _ = false
@@ -19,9 +20,11 @@ is_type_system _ = false
 abbrev pub breaks_executable_definitions : Document → Bool
 breaks_executable_definitions document = list_any is_type_system document.definitions
 
+-- the name of an operation, unless it is anonymous
 abbrev pub operation_name : Operation → Option (List ℕ)
 operation_name operation = option_map (λ n. n.text) operation.name
 
+-- the name of a definition that is a named operation; any other has none
 abbrev pub name_of_operation : Definition → Option (List ℕ)
 name_of_operation (definition.Operation d) = operation_name d
 name_of_operation _ = None
@@ -38,10 +41,12 @@ breaks_operation_name_uniqueness document = stands_twice (operation_names docume
 abbrev pub breaks_lone_anonymous_operation : Document → Bool
 breaks_lone_anonymous_operation document = some_operation (λ o. is_none o.name) document && is_none (only (operations document))
 
+-- the name of a definition that is a fragment; any other has none
 abbrev pub name_of_fragment : Definition → Option (List ℕ)
 name_of_fragment (definition.Fragment d) = Some d.name.text
 name_of_fragment _ = None
 
+-- the names of the fragments, in document order
 abbrev pub fragment_names : Document → List (List ℕ)
 fragment_names document = filter_map name_of_fragment document.definitions
 
@@ -49,9 +54,11 @@ fragment_names document = filter_map name_of_fragment document.definitions
 abbrev pub breaks_fragment_name_uniqueness : Document → Bool
 breaks_fragment_name_uniqueness document = stands_twice (fragment_names document)
 
+-- no fragment of the document has this name
 abbrev pub is_unknown_fragment : Document → List ℕ → Bool
 is_unknown_fragment document name = is_none (fragment_named document name)
 
+-- a definition spreads, at any depth, a fragment that the document doesn't define
 abbrev pub spreads_unknown : Document → Definition → Bool
 spreads_unknown document d = list_any (is_unknown_fragment document) (spread_names d)
 
@@ -63,7 +70,7 @@ breaks_spread_target_defined document = list_any (spreads_unknown document) docu
 abbrev pub breaks_fragment_cycles : Document → Bool
 breaks_fragment_cycles document = has_circle (spread_graph document)
 
--- the places of the operations
+-- the place of a definition that is an operation
 abbrev pub operation_place : ℕ × Definition → Option ℕ
 operation_place p = cond (operation_is (λ o. true) p.1) (Some p.0) None
 
@@ -75,7 +82,7 @@ used_graph document = spread_graph document ++ filter_map operation_place (place
 abbrev pub used_marks : Document → List Bool
 used_marks document = reached_from (used_graph document) (length document.definitions)
 
--- a fragment that isn't so
+-- a fragment to which no such walk leads
 abbrev pub is_unused : Definition × Bool → Bool
 is_unused p = fragment_is (λ f. not p.1) p.0
 

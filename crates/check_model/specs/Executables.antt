@@ -8,6 +8,7 @@ use Rattle.gql_model.specs.declared.document.Definition.{Definition}
 use Rattle.gql_model.specs.declared.document.Definition.TheVariants as definition
 use Rattle.gql_model.specs.declared.document.Document.{Document}
 
+-- the operation that a definition is, as a list of one, or no operation
 abbrev pub operation_in : Definition → List Operation
 operation_in (definition.Operation d) = d ∷ []
 operation_in _ = []
@@ -16,10 +17,12 @@ operation_in _ = []
 abbrev pub operations : Document → List Operation
 operations document = flat_map operation_in document.definitions
 
+-- whether a definition is an operation that passes a test
 abbrev pub operation_is : (Operation → Bool) → Definition → Bool
 operation_is test (definition.Operation d) = test d
 operation_is test _ = false
 
+-- whether a definition is a fragment that passes a test
 abbrev pub fragment_is : (Fragment → Bool) → Definition → Bool
 fragment_is test (definition.Fragment d) = test d
 fragment_is test _ = false
@@ -40,6 +43,7 @@ is_fragment_of name fragment = bytes_eq name fragment.name.text
 abbrev pub defines : List ℕ → Definition → Bool
 defines name d = fragment_is (is_fragment_of name) d
 
+-- the fragment that a definition is, if it is one
 abbrev pub as_fragment : Definition → Option Fragment
 as_fragment (definition.Fragment d) = Some d
 as_fragment _ = None

@@ -1,4 +1,4 @@
--- The types of selection sets and of the fields in them (GraphQL October 2021, 5.3.1; 4.4 for `__typename`).
+-- The types of selection sets and of the fields in them (GraphQL October 2021, 5.3.1; 4.1 for `__typename`).
 use Rattle.std.specs.Prelude.{ℕ, Bool, true, false, List, [], Option, Some, None, cond, codes, bytes_eq}
 use Rattle.std.specs.Option.{option_map_or, option_and_then}
 use Rattle.gql_model.specs.declared.name.Name.{Name}
@@ -45,6 +45,7 @@ abbrev pub inline_parent : Schema → Parent → Option Name → Parent
 inline_parent schema parent None = parent
 inline_parent schema parent (Some condition) = composite_named schema condition.text
 
+-- whether a field's name is `__typename`
 abbrev pub is_typename : List ℕ → Bool
 is_typename name = bytes_eq name (codes "__typename")
 
@@ -56,6 +57,7 @@ typename_type = roll-TypeRef (TypeRef-F.Named (codes "String") true)
 abbrev pub selected_on : Schema → List ℕ → TypeId → Option TypeRef
 selected_on schema name parent = cond (is_typename name) (Some typename_type) (field_type_of schema parent name)
 
+-- the same in a set that may be without a type: there no field has one
 abbrev pub selected_type : Schema → Parent → List ℕ → Option TypeRef
 selected_type schema parent name = option_and_then (selected_on schema name) parent
 
@@ -63,10 +65,11 @@ selected_type schema parent name = option_and_then (selected_on schema name) par
 abbrev pub parent_below : Schema → TypeRef → Parent
 parent_below schema type = composite_named schema (named_type type)
 
--- the type of the set of a field of this name in a set of this type: `String` isn't composite
+-- the type of the set of a field of this name in a set of this type: `__typename` has none, for `String` isn't composite
 abbrev pub field_parent_on : Schema → List ℕ → TypeId → Parent
 field_parent_on schema name parent = cond (is_typename name) None (option_and_then (parent_below schema) (field_type_of schema parent name))
 
+-- the same in a set that may be without a type: there the set of a field has none either
 abbrev pub field_parent : Schema → Parent → List ℕ → Parent
 field_parent schema parent name = option_and_then (field_parent_on schema name) parent
 
@@ -74,5 +77,6 @@ field_parent schema parent name = option_and_then (field_parent_on schema name) 
 abbrev pub arguments_on : Schema → List ℕ → TypeId → List (List ℕ × InputValue)
 arguments_on schema name parent = option_map_or (λ f. f.arguments) (field_of schema parent name) []
 
+-- the same in a set that may be without a type: there no field has arguments
 abbrev pub field_arguments : Schema → Parent → List ℕ → List (List ℕ × InputValue)
 field_arguments schema parent name = option_map_or (arguments_on schema name) parent []

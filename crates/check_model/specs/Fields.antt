@@ -1,4 +1,5 @@
--- The fields of an operation at every depth, with all spreads and inline fragments followed, whatever their types (after GraphQL October 2021, 5.3.2, FieldsInSetCanMerge).
+-- The fields of an operation at every depth, with all spreads and inline fragments followed, whatever their types
+-- (after GraphQL October 2021, 5.3.2, FieldsInSetCanMerge).
 use Rattle.std.specs.Prelude.{ℕ, List, [], ◌∷◌, Option, Some, None, map}
 use Rattle.std.specs.List.{flat_map}
 use Rattle.std.specs.Option.{option_map_or}
@@ -24,6 +25,7 @@ pub record Placed : Type 0 where
   pub arguments : List Argument
   pub type : Option TypeRef
 
+-- fields with their paths, in document order, those of a fragment where it is spread
 abbrev pub PlacedFields : Type 0
 PlacedFields = List Placed
 
@@ -39,6 +41,7 @@ response_key alias name = option_map_or (λ a. a.text) alias name
 abbrev pub beneath : List ℕ → Parent → Placed → Placed
 beneath key parent field = record field { path = key ∷ field.path; parents = parent ∷ field.parents }
 
+-- a field by itself, in a set of this type: its path is its own response key alone
 abbrev pub own_field : Schema → List ℕ → List ℕ → List Argument → Parent → Placed
 own_field schema key name arguments parent = record {
   path = key ∷ [];
@@ -48,30 +51,37 @@ own_field schema key name arguments parent = record {
   type = selected_type schema parent name;
 }
 
+-- the fields of a field's selection set, which has this type; none where the field has no set
 abbrev pub fields_below : Option PlacedIn → Parent → PlacedFields
 fields_below None parent = []
 fields_below (Some fields) parent = fields parent
 
+-- a field in a set of a type, and after it the fields of its own set, each beneath it
 abbrev pub field_fields : Schema → Field-F PlacedIn PlacedIn PlacedIn PlacedIn → PlacedIn
 field_fields schema field parent =
     own_field schema (response_key field.alias field.name.text) field.name.text field.arguments parent
     ∷ map (beneath (response_key field.alias field.name.text) parent) (fields_below field.selection_set (field_parent schema parent field.name.text))
 
+-- the fields of a selection in a set of a type; a spread gives its fragment's, whatever the type of the set around it
 abbrev pub selection_fields : Follow PlacedFields → Selection-F PlacedIn PlacedIn PlacedIn PlacedIn → PlacedIn
 selection_fields follow (Selection-F.Field field) parent = field parent
 selection_fields follow (Selection-F.Spread spread) parent = follow spread.name.text
 selection_fields follow (Selection-F.Inline fragment) parent = fragment parent
 
+-- the fields of an inline fragment: its set has the type of its condition, or without one that of the set around it
 abbrev pub inline_fields : Schema → InlineFragment-F PlacedIn PlacedIn PlacedIn PlacedIn → PlacedIn
 inline_fields schema fragment parent = fragment.selection_set (inline_parent schema parent fragment.type_condition)
 
+-- the fields of all selections of a set of a type, in their order
 abbrev pub set_fields : SelectionSet-F PlacedIn PlacedIn PlacedIn PlacedIn → PlacedIn
 set_fields set parent = flat_map (λ fields. fields parent) set.selections
 
+-- the fields of a selection set of a type at every depth, where it is given what each spread gives
 abbrev pub fields_of_set : Schema → Follow PlacedFields → SelectionSet → PlacedIn
 fields_of_set schema follow =
     fold-SelectionSet PlacedIn PlacedIn PlacedIn PlacedIn (selection_fields follow) (field_fields schema) (inline_fields schema) set_fields
 
+-- the fields of a fragment at every depth, from its set, which has the type of its condition
 abbrev pub fragment_fields : Schema → Follow PlacedFields → Fragment → PlacedFields
 fragment_fields schema follow fragment = fields_of_set schema follow fragment.selection_set (composite_named schema fragment.type_condition.text)
 

@@ -15,6 +15,6 @@ followed_within zero none meaning document name = none
 followed_within (suc n) none meaning document name =
     option_map_or (meaning (followed_within n none meaning document)) (fragment_named document name) none
 
--- No fragment of a document without cycles is spread deeper than there are definitions.
+-- What a spread gives, with spreads followed to the end: without cycles none goes deeper than there are definitions.
 abbrev pub followed : {C : Type 0} → C → (Follow C → Fragment → C) → Document → Follow C
 followed none meaning document = followed_within (length document.definitions) none meaning document

@@ -50,6 +50,7 @@ spread_grounds document =
     ∷ (Invalid 7, breaks_fragments_used document)
     ∷ []
 
+-- the rules on type conditions, fields and spreads under the schema (5.3.1, 5.3.3, 5.5.1.2, 5.5.1.3 and 5.5.2.3)
 abbrev pub selection_grounds : Schema → Document → List Ground
 selection_grounds schema document =
     (Invalid 8, breaks_spread_type_existence schema document)
@@ -59,6 +60,7 @@ selection_grounds schema document =
     ∷ (Invalid 12, breaks_spread_possible schema document)
     ∷ []
 
+-- the rules on directives (5.7)
 abbrev pub directive_grounds : Schema → Document → List Ground
 directive_grounds schema document =
     (Invalid 13, breaks_directives_defined schema document)
@@ -66,6 +68,7 @@ directive_grounds schema document =
     ∷ (Invalid 15, breaks_directives_unique schema document)
     ∷ []
 
+-- the rules on arguments (5.4)
 abbrev pub argument_grounds : Schema → Document → List Ground
 argument_grounds schema document =
     (Invalid 16, breaks_argument_names schema document)
@@ -73,6 +76,7 @@ argument_grounds schema document =
     ∷ (Invalid 18, breaks_required_arguments schema document)
     ∷ []
 
+-- the rules on the variables that an operation declares and those that it uses (5.8.1 to 5.8.4)
 abbrev pub variable_grounds : Schema → Document → List Ground
 variable_grounds schema document =
     (Invalid 19, breaks_variable_uniqueness document)
@@ -81,6 +85,7 @@ variable_grounds schema document =
     ∷ (Invalid 22, breaks_variables_used schema document)
     ∷ []
 
+-- the rules on values (5.6), and on the types at which variables stand (5.8.5)
 abbrev pub value_grounds : Schema → Document → List Ground
 value_grounds schema document =
     (Invalid 23, breaks_values_of_correct_type schema document)
@@ -88,6 +93,7 @@ value_grounds schema document =
     ∷ (Invalid 25, breaks_variable_usages_allowed schema document)
     ∷ []
 
+-- the rules on fields that are merged (5.3.2) and on the one root field of a subscription (5.2.3.1)
 abbrev pub merge_grounds : Schema → Document → List Ground
 merge_grounds schema document =
     (Invalid 26, breaks_field_merging schema document)

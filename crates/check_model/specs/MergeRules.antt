@@ -13,6 +13,7 @@ use Rattle.check_model.specs.Fields.{Placed, PlacedFields, operation_fields}
 use Rattle.check_model.specs.Shapes.{same_shape}
 use Rattle.check_model.specs.SameValues.{same_arguments}
 
+-- two paths have the same response keys, one by one
 abbrev pub same_path : List (List ℕ) → List (List ℕ) → Bool
 same_path [] [] = true
 same_path (k ∷ ks) (l ∷ ls) = bytes_eq k l && same_path ks ls
@@ -22,6 +23,7 @@ same_path _ _ = false
 abbrev pub differ_in_shape : Schema → Placed → Placed → Bool
 differ_in_shape schema a b = option_map_or (λ t. option_map_or (λ u. not (same_shape schema t u)) b.type false) a.type false
 
+-- whether the type of a number is an object type
 abbrev pub is_object_type : Schema → TypeId → Bool
 is_object_type schema id = option_map_or (λ t. is_object t.1.form) (type_at schema id) false
 
@@ -29,6 +31,7 @@ is_object_type schema id = option_map_or (λ t. is_object t.1.form) (type_at sch
 abbrev pub may_overlap_types : Schema → TypeId → TypeId → Bool
 may_overlap_types schema a b = nat_eq a.0 b.0 || not (is_object_type schema a) || not (is_object_type schema b)
 
+-- some object may be of the types of both sets; a set without a type may overlap with any
 abbrev pub may_overlap : Schema → Parent → Parent → Bool
 may_overlap schema a b = option_map_or (λ x. option_map_or (may_overlap_types schema x) b true) a true
 
@@ -47,6 +50,7 @@ conflict schema a b =
     same_path a.path b.path
     && (differ_in_shape schema a b || (ask_differently a b && all_may_overlap schema a.parents b.parents))
 
+-- two of these fields stand under one path and can't be merged
 abbrev pub some_conflict : Schema → PlacedFields → Bool
 some_conflict schema fields = list_any (λ a. list_any (conflict schema a) fields) fields
 

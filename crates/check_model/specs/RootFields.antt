@@ -24,6 +24,7 @@ use Rattle.check_model.specs.Followed.{Follow, followed}
 abbrev pub RootField : Type 0
 RootField = List ℕ × List ℕ
 
+-- root fields one after another, not grouped by their response keys: a field may be there twice
 abbrev pub RootFields : Type 0
 RootFields = List RootField
 
@@ -31,28 +32,35 @@ RootFields = List RootField
 abbrev pub applies : Schema → TypeId → List ℕ → Bool
 applies schema object condition = option_map_or (is_possible_of schema object) (id_named schema condition) false
 
+-- whether an inline fragment applies to objects of a type: always where it has no condition
 abbrev pub applies_inline : Schema → TypeId → Option Name → Bool
 applies_inline schema object None = true
 applies_inline schema object (Some condition) = applies schema object condition.text
 
+-- a field gives its response key and its name; what is selected below it doesn't count
 abbrev pub field_root : Field-F RootFields RootFields RootFields RootFields → RootFields
 field_root field = (response_key field.alias field.name.text, field.name.text) ∷ []
 
+-- the root fields of a selection; a spread gives those of its fragment
 abbrev pub selection_root : Follow RootFields → Selection-F RootFields RootFields RootFields RootFields → RootFields
 selection_root follow (Selection-F.Field field) = field
 selection_root follow (Selection-F.Spread spread) = follow spread.name.text
 selection_root follow (Selection-F.Inline fragment) = fragment
 
+-- the root fields of an inline fragment: those of its set where it applies to the root type, or else none
 abbrev pub inline_root : Schema → TypeId → InlineFragment-F RootFields RootFields RootFields RootFields → RootFields
 inline_root schema object fragment = cond (applies_inline schema object fragment.type_condition) fragment.selection_set []
 
+-- the root fields of all selections of a set, in their order
 abbrev pub set_root : SelectionSet-F RootFields RootFields RootFields RootFields → RootFields
 set_root set = flat_map (λ fields. fields) set.selections
 
+-- the root fields of a selection set for a root type, where it is given what each spread gives
 abbrev pub root_fields_of_set : Schema → TypeId → Follow RootFields → SelectionSet → RootFields
 root_fields_of_set schema object follow =
     fold-SelectionSet RootFields RootFields RootFields RootFields (selection_root follow) field_root (inline_root schema object) set_root
 
+-- the root fields of a fragment: those of its set where it applies to the root type, or else none
 abbrev pub fragment_root : Schema → TypeId → Follow RootFields → Fragment → RootFields
 fragment_root schema object follow fragment =
     cond (applies schema object fragment.type_condition.text) (root_fields_of_set schema object follow fragment.selection_set) []
@@ -67,11 +75,13 @@ abbrev pub is_single : RootFields → Bool
 is_single [] = false
 is_single (first ∷ more) = list_all (λ f. bytes_eq first.0 f.0) more && not (is_typename first.1)
 
+-- whether operations of this kind are subscriptions
 abbrev pub is_subscription : OperationKind → Bool
 is_subscription kind.Query = false
 is_subscription kind.Mutation = false
 is_subscription kind.Subscription = true
 
+-- a subscription's root fields aren't a single one, under a schema that has a root type for subscriptions
 abbrev pub has_other_root_fields : Schema → Document → Operation → Bool
 has_other_root_fields schema document operation =
     is_subscription operation.kind

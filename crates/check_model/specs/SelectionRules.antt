@@ -33,6 +33,7 @@ breaks_fragments_on_composites schema document = some_site (is_condition_without
 abbrev pub is_undefined_on : Schema → List ℕ → TypeId → Bool
 is_undefined_on schema name parent = not (is_typename name) && is_none (field_of schema parent name)
 
+-- the same of a field in a set that may be without a type: there no field counts as undefined
 abbrev pub is_undefined_field : Schema → Site → Bool
 is_undefined_field schema (Site.Selected parent name has_set) = option_map_or (is_undefined_on schema name) parent false
 is_undefined_field schema _ = false
@@ -50,10 +51,12 @@ abbrev pub differs : Bool → Bool → Bool
 differs true b = not b
 differs false b = b
 
--- a field of a leaf type has a selection set, or one of a composite type has none
+-- a field has a selection set though it isn't of a composite type, or has none though it is;
+-- `__typename` and a field that isn't defined are of no composite type
 abbrev pub is_wrong_set_on : Schema → List ℕ → Bool → TypeId → Bool
 is_wrong_set_on schema name has_set parent = differs has_set (is_some (field_parent_on schema name parent))
 
+-- the same of a field in a set that may be without a type: there no field counts as wrong
 abbrev pub is_wrong_set : Schema → Site → Bool
 is_wrong_set schema (Site.Selected parent name has_set) = option_map_or (is_wrong_set_on schema name has_set) parent false
 is_wrong_set schema _ = false

@@ -15,6 +15,7 @@ is_leaf form.Scalar = true
 is_leaf (form.Enum values) = true
 is_leaf _ = false
 
+-- whether a name is that of a scalar or an enum of the schema
 abbrev pub names_leaf : Schema → List ℕ → Bool
 names_leaf schema name = option_map_or (λ t. is_leaf t.form) (entry schema.types name) false
 
@@ -22,14 +23,17 @@ names_leaf schema name = option_map_or (λ t. is_leaf t.form) (entry schema.type
 abbrev pub same_named_shape : Schema → List ℕ → List ℕ → Bool
 same_named_shape schema a b = bytes_eq a b || (not (names_leaf schema a) && not (names_leaf schema b))
 
+-- the other is a named type too, Non-Null just where this one is, and the two names have the same shape
 abbrev pub named_shape : Schema → List ℕ → Bool → TypeRef-F TypeRef → Bool
 named_shape schema name required (TypeRef-F.Named other_name other) = same_bool required other && same_named_shape schema name other_name
 named_shape schema name required (TypeRef-F.List inner other) = false
 
+-- the other is a list too, Non-Null just where this one is, and its item type has the same shape
 abbrev pub list_shape : (TypeRef → Bool) → Bool → TypeRef-F TypeRef → Bool
 list_shape same required (TypeRef-F.Named name other) = false
 list_shape same required (TypeRef-F.List inner other) = same_bool required other && same inner
 
+-- which types have the shape of a type, where it is known of a list which types have the shape of its item type
 abbrev pub shape_step : Schema → TypeRef-F (TypeRef → Bool) → TypeRef → Bool
 shape_step schema (TypeRef-F.Named name required) other = named_shape schema name required (out-TypeRef other)
 shape_step schema (TypeRef-F.List same required) other = list_shape same required (out-TypeRef other)

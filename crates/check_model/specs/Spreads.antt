@@ -18,17 +18,21 @@ use Rattle.digraph.specs.Walks.{Graph, reached_from}
 abbrev pub Spreads : Type 0
 Spreads = List (List ℕ)
 
+-- a spread spreads its own name; a field and an inline fragment, what is spread in their sets
 abbrev pub selection_spreads : Selection-F Spreads Spreads Spreads Spreads → Spreads
 selection_spreads (Selection-F.Field field) = field
 selection_spreads (Selection-F.Spread spread) = spread.name.text ∷ []
 selection_spreads (Selection-F.Inline fragment) = fragment
 
+-- the names that are spread in the set of a field, if it has one
 abbrev pub field_spreads : Field-F Spreads Spreads Spreads Spreads → Spreads
 field_spreads field = unwrap_or field.selection_set []
 
+-- the names that are spread in the set of an inline fragment
 abbrev pub inline_spreads : InlineFragment-F Spreads Spreads Spreads Spreads → Spreads
 inline_spreads fragment = fragment.selection_set
 
+-- the names that are spread in a set, selection by selection
 abbrev pub set_spreads : SelectionSet-F Spreads Spreads Spreads Spreads → Spreads
 set_spreads set = flat_map (λ names. names) set.selections
 
@@ -36,12 +40,15 @@ set_spreads set = flat_map (λ names. names) set.selections
 abbrev pub spreads_in : SelectionSet → Spreads
 spreads_in = fold-SelectionSet Spreads Spreads Spreads Spreads selection_spreads field_spreads inline_spreads set_spreads
 
+-- the names of the fragments that a selection spreads, at any depth
 abbrev pub spreads_of_selection : Selection → Spreads
 spreads_of_selection = fold-Selection Spreads Spreads Spreads Spreads selection_spreads field_spreads inline_spreads set_spreads
 
+-- the names of the fragments that are spread in the set of a field, at any depth
 abbrev pub spreads_of_field : Field → Spreads
 spreads_of_field = fold-Field Spreads Spreads Spreads Spreads selection_spreads field_spreads inline_spreads set_spreads
 
+-- the names of the fragments that are spread in an inline fragment, at any depth
 abbrev pub spreads_of_inline : InlineFragment → Spreads
 spreads_of_inline = fold-InlineFragment Spreads Spreads Spreads Spreads selection_spreads field_spreads inline_spreads set_spreads
 
@@ -57,6 +64,7 @@ spread_names (definition.TypeSystem d) = []
 abbrev pub targets : Document → Spreads → List ℕ
 targets document names = filter_map (fragment_place document) names
 
+-- the places of the fragments that a definition spreads; a name of no fragment has none
 abbrev pub definition_targets : Document → Definition → List ℕ
 definition_targets document d = targets document (spread_names d)
 

@@ -25,7 +25,8 @@ pub record Wanted : Type 0 where
   pub type : TypeRef
   pub has_default : Bool
 
--- what is wanted at a place; nothing inside a literal of a custom scalar
+-- what is wanted at a place; nothing inside a literal of a custom scalar, at an argument or a field that isn't defined,
+-- or in a list literal where no list is wanted
 abbrev pub At : Type 0
 At = Option Wanted
 
@@ -34,6 +35,7 @@ pub record Usage : Type 0 where
   pub name : List ℕ
   pub at : At
 
+-- uses of variables, one after another
 abbrev pub Usages : Type 0
 Usages = List Usage
 
@@ -50,6 +52,7 @@ abbrev pub item_of : TypeRef-F TypeRef → At
 item_of (TypeRef-F.Named name required) = None
 item_of (TypeRef-F.List inner required) = Some (record { type = inner; has_default = false })
 
+-- what is wanted of each item of a list literal, by what is wanted of the list
 abbrev pub at_item : At → At
 at_item at = option_and_then (λ w. item_of (out-TypeRef w.type)) at
 
@@ -60,6 +63,7 @@ input_fields_at schema at =
 
 -- ---- literals, each at what is wanted there
 
+-- the variables in a literal, once it is given what is wanted of the literal
 abbrev pub UsagesAt : Type 0
 UsagesAt = At → Usages
 
@@ -67,15 +71,18 @@ UsagesAt = At → Usages
 abbrev pub FieldUsages : Type 0
 FieldUsages = List ℕ × UsagesAt
 
+-- the variables in a literal are those in its value
 abbrev pub literal_usages : Literal-F UsagesAt UsagesAt FieldUsages → UsagesAt
 literal_usages literal = literal.value
 
+-- a variable is itself a use; lists and objects hand down what their items and fields are wanted to be
 abbrev pub value_usages : Schema → LiteralValue-F UsagesAt UsagesAt FieldUsages → UsagesAt
 value_usages schema (LiteralValue-F.Variable name) at = record { name = name; at = at } ∷ []
 value_usages schema (LiteralValue-F.List items) at = flat_map (λ usages. usages (at_item at)) items
 value_usages schema (LiteralValue-F.Object fields) at = flat_map (λ f. f.1 (wanted_at (input_fields_at schema at) f.0)) fields
 value_usages schema _ at = []
 
+-- a field of an object literal by its name, with the variables in its value
 abbrev pub field_usages : ObjectField-F UsagesAt UsagesAt FieldUsages → FieldUsages
 field_usages field = (field.name.text, field.value)
 
@@ -83,21 +90,26 @@ field_usages field = (field.name.text, field.value)
 abbrev pub usages_in : Schema → Literal → UsagesAt
 usages_in schema = fold-Literal UsagesAt UsagesAt FieldUsages (value_usages schema) literal_usages field_usages
 
+-- the variables in the value of a literal
 abbrev pub usages_in_value : Schema → LiteralValue → UsagesAt
 usages_in_value schema = fold-LiteralValue UsagesAt UsagesAt FieldUsages (value_usages schema) literal_usages field_usages
 
+-- the name of a field of an object literal, and the variables in its value, at every depth
 abbrev pub usages_in_field : Schema → ObjectField → FieldUsages
 usages_in_field schema = fold-ObjectField UsagesAt UsagesAt FieldUsages (value_usages schema) literal_usages field_usages
 
 -- ---- documents
 
+-- the variables in an argument, at what the defined argument of its name wants
 abbrev pub argument_usages : Schema → List (List ℕ × InputValue) → Argument → Usages
 argument_usages schema defined argument = usages_in schema argument.value (wanted_at defined argument.name.text)
 
+-- the variables in a part of a document: they stand in arguments alone
 abbrev pub site_usages : Schema → Site → Usages
 site_usages schema (Site.Given defined arguments) = flat_map (argument_usages schema defined) arguments
 site_usages schema _ = []
 
+-- the variables that a definition itself uses, at every depth; spreads aren't followed
 abbrev pub definition_usages : Schema → Document → Definition → Usages
 definition_usages schema document d = flat_map (site_usages schema) (definition_sites schema document d)
 

@@ -16,6 +16,7 @@ abbrev pub is_unfit : Schema → List (List ℕ × InputValue) → Argument → 
 is_unfit schema defined argument =
     option_map_or (λ i. not (literal_fits schema argument.value i.input_type.type_ref)) (entry defined argument.name.text) false
 
+-- the value of an argument, or the default of a variable, doesn't fit its type
 abbrev pub has_unfit_value : Schema → Site → Bool
 has_unfit_value schema (Site.Given defined arguments) = list_any (is_unfit schema defined) arguments
 has_unfit_value schema (Site.Default type literal) = not (literal_fits schema literal type)

@@ -15,9 +15,11 @@ constant_in_value (LiteralValue-F.List items) = list_all (λ c. c) items
 constant_in_value (LiteralValue-F.Object fields) = list_all (λ c. c) fields
 constant_in_value _ = true
 
+-- a literal is a constant where its value is one
 abbrev pub constant_in_literal : Literal-F Bool Bool Bool → Bool
 constant_in_literal l = l.value
 
+-- a field of an object literal is a constant where its value is one
 abbrev pub constant_in_field : ObjectField-F Bool Bool Bool → Bool
 constant_in_field f = f.value
 
@@ -25,9 +27,11 @@ constant_in_field f = f.value
 abbrev pub is_constant : Literal → Bool
 is_constant = fold-Literal Bool Bool Bool constant_in_value constant_in_literal constant_in_field
 
+-- the same of the value of a literal
 abbrev pub is_constant_value : LiteralValue → Bool
 is_constant_value = fold-LiteralValue Bool Bool Bool constant_in_value constant_in_literal constant_in_field
 
+-- the same of a field of an object literal
 abbrev pub is_constant_field : ObjectField → Bool
 is_constant_field = fold-ObjectField Bool Bool Bool constant_in_value constant_in_literal constant_in_field
 

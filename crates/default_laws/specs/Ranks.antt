@@ -1,4 +1,4 @@
--- How far a node is from the end of all walks, in a graph without circles.
+-- Ranks of nodes, which fall along all walks in a graph without circles.
 use Rattle.std.specs.Prelude.{◌≡◌, ℕ, ◌<◌, true, length}
 use Rattle.std.specs.List.{count_by, range_with_len}
 use Rattle.digraph.specs.Walks.{Graph, leads, reaches, Reaches}
@@ -11,13 +11,14 @@ rank graph a = count_by (reaches graph a) (range_with_len 0 (length graph))
 abbrev pub HasNoCircle : Graph → Type 0
 HasNoCircle graph = (a : ℕ) → Reaches graph a a → ⊥
 
--- in a graph without circles ranks fall along each step
+-- ranks fall along each step to a node
 abbrev pub FallsAlongSteps : Graph → Type 0
 FallsAlongSteps graph = (a b : ℕ) → leads graph a b ≡ true → b < length graph → rank graph b < rank graph a
 
--- and each is below the number of nodes
+-- the rank of each node is below the number of nodes
 abbrev pub IsBelowNodes : Graph → Type 0
 IsBelowNodes graph = (a : ℕ) → a < length graph → rank graph a < length graph
 
+-- in a graph without circles ranks fall along each step, and are below the number of nodes
 abbrev pub RanksFall : Type 0
 RanksFall = (graph : Graph) → HasNoCircle graph → FallsAlongSteps graph × IsBelowNodes graph

@@ -25,8 +25,8 @@ HasConstantDefaults fields = AllByRecursion (λ f. is_constant_default f.1.defau
 abbrev pub IsPlain : NamedType → Type 0
 IsPlain type = HasDistinctNames (input_fields type.1.form) × HasConstantDefaults (input_fields type.1.form)
 
--- What is known of the defaults of a schema: its types are distinct, its input object types are plain, none of its types is empty,
--- and no default has itself filled in (GraphQL October 2021, 3.3 and 3.10; S9).
+-- A schema whose types have distinct names (GraphQL October 2021, 3.3), whose input object types are plain, of whose types none is empty
+-- (3.6 to 3.10; S9), and in which no default of an input field has itself filled in (own rule; S9).
 pub record IsSettling (schema : Schema) : Type 0 where
   pub types : HasDistinctNames schema.types
   pub plain : AllByRecursion IsPlain schema.types

@@ -2,6 +2,7 @@
 use Rattle.std.specs.Prelude.{ℕ, zero, suc, Bool, ◌&&◌, ◌||◌, List, [], ◌∷◌, length, get_or, map, nat_eq, ◌≡◌, true}
 use Rattle.std.specs.List.{list_any, range_with_len}
 
+-- of each node, by its number, the nodes that it leads to in one step
 abbrev pub Graph : Type 0
 Graph = List (List ℕ)
 

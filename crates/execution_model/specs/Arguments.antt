@@ -22,15 +22,17 @@ argument_given defaults schema variables arguments defined =
     option_map_or (λ a. literal_meaning defaults schema variables a.value (Some defined.1.input_type.type_ref))
     (find (λ a. bytes_eq a.name.text defined.0) arguments) Absent
 
--- Where a Non-Null argument has neither value nor default it counts as null; this project's own rule, which is met
--- only where a variable stands for it whose value is null or absent.
+-- Where a Non-Null argument has neither value nor default it counts as null, which in 6.4.1 is a field error; this project's own rule.
+-- In an accepted operation only a variable without value can leave an argument so.
 abbrev pub null_if_required : List ℕ × InputValue → Pairs
 null_if_required defined = cond (is_non_null defined.1.input_type.type_ref) ((defined.0, null_value) ∷ []) []
 
+-- an argument's name with the value that it has; without one the argument is left out, or null where it is Non-Null
 abbrev pub argument_member : List ℕ × InputValue → Given → Pairs
 argument_member defined (Is value) = (defined.0, value) ∷ []
 argument_member defined _ = null_if_required defined
 
+-- one defined argument, by what is given for it or else by its default
 abbrev pub coerced_argument : Defaults → Schema → Pairs → List Argument → List ℕ × InputValue → Pairs
 coerced_argument defaults schema variables arguments defined =
     argument_member defined (or_default defined.1 (argument_default defaults schema defined.1) (argument_given defaults schema variables arguments defined))

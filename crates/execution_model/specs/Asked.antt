@@ -1,4 +1,5 @@
--- What an operation asks of an object (GraphQL October 2021, 6.3 and 6.4): the collected fields, each with its name, its arguments' values and its type.
+-- What an operation asks of an object (GraphQL October 2021, 6.3 and 6.4): the collected fields, each with its name,
+-- its arguments' values and its type.
 use Rattle.std.specs.Prelude.{ℕ, List, [], ◌∷◌, map, Option, Some, None, codes, slice_get}
 use Rattle.std.specs.Option.{option_map_or, option_and_then}
 use Rattle.gql_model.specs.declared.selection.Argument.{Argument}
@@ -21,7 +22,8 @@ use Rattle.execution_model.specs.Fronts.{Fronts, fronts_of}
 use Rattle.execution_model.specs.declared.group.Group.{Group}
 use Rattle.execution_model.specs.Collection.{SetId, collected}
 
--- a document under its schema, with the values of the schema's defaults, the place of the chosen operation among its definitions, and the coerced values of that operation's variables
+-- a document under its schema, with the values of the schema's defaults, the place of the chosen operation among its definitions,
+-- and the coerced values of that operation's variables
 pub record Execution : Type 0 where
   pub schema : Schema
   pub defaults : Defaults
@@ -29,6 +31,7 @@ pub record Execution : Type 0 where
   pub operation : ℕ
   pub variables : Pairs
 
+-- the kind of an operation; a fragment and a type system definition have none
 abbrev pub kind_in : Definition → Option OperationKind
 kind_in (definition.Operation d) = Some d.kind
 kind_in _ = None
@@ -45,7 +48,8 @@ root_type execution = option_and_then (root_of execution.schema) (chosen_kind ex
 abbrev pub root_sets : Execution → SetId
 root_sets execution = option_map_or (λ m. m.sets ∷ []) (slice_get (definition_marks execution.document) execution.operation) []
 
--- a collected field of an object: its response key, its name, the values of its arguments, its type where the object's type defines it, and its own sets, joined
+-- a collected field of an object: its response key, its name, the values of its arguments, its type where the object's type defines it,
+-- and its own sets, joined
 pub record Asked : Type 0 where
   pub key : List ℕ
   pub name : List ℕ
@@ -57,9 +61,11 @@ pub record Asked : Type 0 where
 abbrev pub Written : Type 0
 Written = List ℕ × List Argument
 
+-- those of one field; its alias isn't looked at
 abbrev pub written_field : Field → Written
 written_field field = ((out-Field field).name.text, (out-Field field).arguments)
 
+-- `__typename` without arguments, as it is put at the front of a set
 abbrev pub typename_written : Written
 typename_written = (codes "__typename", [])
 
@@ -67,6 +73,7 @@ typename_written = (codes "__typename", [])
 abbrev pub written_of : Document → Group → Written
 written_of document group = option_map_or written_field (option_and_then (slice_get (fields_of document)) group.field) typename_written
 
+-- what a group asks of an object of this type, where its first field has this name and these arguments
 abbrev pub asked_as : Execution → TypeId → Group → Written → Asked
 asked_as execution object group written = record {
   key = group.key;
@@ -76,6 +83,7 @@ asked_as execution object group written = record {
   sets = group.sets;
 }
 
+-- what a group asks of an object of this type
 abbrev pub asked_of : Execution → TypeId → Group → Asked
 asked_of execution object group = asked_as execution object group (written_of execution.document group)
 

@@ -46,6 +46,7 @@ pub record Collecting : Type 0 where
 
 -- ---- groups
 
+-- whether a group has this response key
 abbrev pub has_key : List ℕ → Group → Bool
 has_key key group = bytes_eq key group.key
 
@@ -53,6 +54,7 @@ has_key key group = bytes_eq key group.key
 abbrev pub group_place : List ℕ → List Group → Option ℕ
 group_place key groups = position_from (has_key key) 0 groups
 
+-- a group with one set more, behind those that it has
 abbrev pub with_own_set : ℕ → Group → Group
 with_own_set set group = record group { sets = group.sets ++ set ∷ [] }
 
@@ -60,9 +62,11 @@ with_own_set set group = record group { sets = group.sets ++ set ∷ [] }
 abbrev pub joined_set : List Group → ℕ → ℕ → List Group
 joined_set groups at set = option_map_or (λ group. slice_set groups at (with_own_set set group)) (slice_get groups at) groups
 
+-- a field's set, where it has one, joins those of the group at a place
 abbrev pub joined_at : Option ℕ → List Group → ℕ → List Group
 joined_at set groups at = option_map_or (joined_set groups at) set groups
 
+-- a new group of a response key, with the number of its first field and of the set of that, where there are these
 abbrev pub begun : List ℕ → Option ℕ → Option ℕ → Group
 begun key field set = record { key = key; field = field; sets = option_to_list set }
 
@@ -74,6 +78,7 @@ grouped key field set groups = option_map_or (joined_at set groups) (group_place
 abbrev pub own_set : Mark → Option SelectionSet → Option ℕ
 own_set mark set = option_map (λ s. mark.sets) set
 
+-- a field joins the group of its alias or else of its name, with the numbers that are next at its mark
 abbrev pub with_field : Mark → Field → Collecting → Collecting
 with_field mark field state =
     record state { groups = grouped (response_key (out-Field field).alias (out-Field field).name.text) (Some mark.fields) (own_set mark (out-Field field).selection_set) state.groups }
@@ -96,6 +101,7 @@ with_front fronts set state = cond (is_put_in fronts set) (record state { groups
 abbrev pub Spreading : Type 0
 Spreading = List ℕ × ℕ
 
+-- the condition of a fragment, and the number of its set, which is next at the fragment's mark
 abbrev pub spreading : Fragment → Mark → Spreading
 spreading fragment mark = (fragment.type_condition.text, mark.sets)
 
@@ -109,9 +115,11 @@ fragment_at document place =
 abbrev pub spread_fragment : Document → List ℕ → Option Spreading
 spread_fragment document name = option_and_then (fragment_at document) (fragment_place document name)
 
+-- whether the fragment of this name was followed before
 abbrev pub was_spread : List ℕ → Collecting → Bool
 was_spread name state = is_some (entry state.spread name)
 
+-- the fragment of this name, whose set has this number, counts as followed from here on
 abbrev pub spread_once : List ℕ → ℕ → Collecting → Collecting
 spread_once name set state = record state { spread = put state.spread (name, set) }
 
@@ -125,19 +133,23 @@ abbrev pub with_spread : Following → Context → List ℕ → Collecting → C
 with_spread follow context name state =
     cond (was_spread name state) state (option_map_or (with_fragment follow context name state) (spread_fragment context.document name) state)
 
+-- the set of an inline fragment is followed, where its condition applies to the object type or it has none
 abbrev pub with_inline : Following → Context → Mark → Option Name → Collecting → Collecting
 with_inline follow context mark condition state = cond (applies_inline context.schema context.object condition) (follow mark.sets state) state
 
+-- the directives that stand on a selection of any form
 abbrev pub directives_of : Selection-F Selection Field InlineFragment SelectionSet → List Directive
 directives_of (Selection-F.Field field) = (out-Field field).directives
 directives_of (Selection-F.Spread spread) = spread.directives
 directives_of (Selection-F.Inline fragment) = fragment.directives
 
+-- a selection by its form: a field is collected, the set of a spread or of an inline fragment is followed where it applies
 abbrev pub with_open_selection : Following → Context → Mark → Selection-F Selection Field InlineFragment SelectionSet → Collecting → Collecting
 with_open_selection follow context mark (Selection-F.Field field) state = with_field mark field state
 with_open_selection follow context mark (Selection-F.Spread spread) state = with_spread follow context spread.name.text state
 with_open_selection follow context mark (Selection-F.Inline fragment) state = with_inline follow context mark fragment.type_condition state
 
+-- the same, unless `@skip` or `@include` has the selection passed over
 abbrev pub with_selection : Following → Context → Mark → Selection → Collecting → Collecting
 with_selection follow context mark selection state =
     cond (is_passed_over context.variables (directives_of (out-Selection selection))) state (with_open_selection follow context mark (out-Selection selection) state)
@@ -165,9 +177,11 @@ with_selections follow context marks set state = through (with_nth follow contex
 abbrev pub with_set : Following → Context → ℕ → Collecting → List Mark → SelectionSet → Collecting
 with_set follow context number state marks set = with_selections follow context marks set (with_front context.fronts number state)
 
+-- the same, where there is such a set; else nothing is collected
 abbrev pub with_marks : Following → Context → ℕ → Collecting → Option SelectionSet → List Mark → Collecting
 with_marks follow context number state set marks = option_map_or (with_set follow context number state marks) set state
 
+-- the set of a number in the document, in which the sets of fragments are followed by `follow`
 abbrev pub follow_set : Following → Context → Following
 follow_set follow context number state =
     option_map_or (with_marks follow context number state (slice_get (sets_of context.document) number)) (slice_get (marks_of context.document) number) state
@@ -181,12 +195,15 @@ followed_within (suc n) context number state = follow_set (followed_within n con
 unfoldable pub deepest : ℕ
 deepest = 64
 
+-- follows a set as deep as sets nest in a checked document
 abbrev pub followed : Context → Following
 followed = followed_within deepest
 
+-- no groups, and no fragment followed yet
 abbrev pub nothing_collected : Collecting
 nothing_collected = record { groups = []; spread = [] }
 
+-- one set more is followed behind what was collected so far
 abbrev pub with_joined : Context → Collecting → ℕ → Collecting
 with_joined context state set = followed context set state
 

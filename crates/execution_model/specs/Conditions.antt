@@ -13,14 +13,17 @@ use Rattle.gql_value.specs.declared.value.Value.TheOpen.{Value-F}
 use Rattle.schema_model.specs.Tables.{entry}
 use Rattle.execution_model.specs.Values.{Pairs}
 
+-- whether a truth value is the wanted one, which comes first
 abbrev pub is_wanted : Bool → Bool → Bool
 is_wanted true b = b
 is_wanted false b = not b
 
+-- whether a value is the wanted truth value; null and other sorts of values aren't
 abbrev pub is_bool_value : Bool → Value-F Value → Bool
 is_bool_value wanted (Value-F.Bool b) = is_wanted wanted b
 is_bool_value wanted _ = false
 
+-- whether a literal is the wanted truth value, or a variable that has it as its value
 abbrev pub is_bool_literal : Bool → Pairs → LiteralValue-F LiteralValue Literal ObjectField → Bool
 is_bool_literal wanted variables (LiteralValue-F.Boolean b) = is_wanted wanted b
 is_bool_literal wanted variables (LiteralValue-F.Variable name) = option_map_or (λ v. is_bool_value wanted (out-Value v)) (entry variables name) false

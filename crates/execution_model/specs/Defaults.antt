@@ -22,10 +22,12 @@ value_given (Is value) = Some value
 abbrev pub constant : Defaults → Schema → Literal → TypeRef → Option Value
 constant defaults schema literal type = value_given (literal_meaning defaults schema [] literal (Some type))
 
+-- an input field's name with the value of its default, where it has one that its type takes
 abbrev pub field_value : Defaults → Schema → List ℕ × InputValue → Option (List ℕ × Value)
 field_value defaults schema field =
     option_and_then (λ literal. option_map (λ value. (field.0, value)) (constant defaults schema literal field.1.input_type.type_ref)) field.1.default
 
+-- the values of the defaults of these input fields, by name and in order; a field without one is left out
 abbrev pub fields_values : Defaults → Schema → List (List ℕ × InputValue) → Pairs
 fields_values defaults schema fields = filter_map (field_value defaults schema) fields
 

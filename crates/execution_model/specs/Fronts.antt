@@ -54,7 +54,7 @@ has_subscription document = some_operation (λ o. is_subscription o.kind) docume
 
 -- ---- the sets of a document, in the order of their numbers
 
--- for each set, whether it gets the field
+-- a flag for each set: whether it gets the field
 abbrev pub Fronts : Type 0
 Fronts = List Bool
 
@@ -67,24 +67,29 @@ pub record Fronting : Type 0 where
   pub plain : Bool
   pub inside : Parent → Fronts
 
+-- the flags of the own set of a field, which is of this type, and of the sets in it; none where the field has no set
 abbrev pub fronts_below : Option FrontsIn → Parent → Fronts
 fronts_below None parent = []
 fronts_below (Some fronts) parent = fronts OfField parent
 
+-- a field: whether it is a plain `__typename`, and the flags of its set, which is of the field's type
 abbrev pub field_fronts : Schema → Field-F Fronting Fronting FrontsIn FrontsIn → Fronting
 field_fronts schema field = record {
   plain = is_plain_typename field.alias field.name.text field.directives;
   inside = λ parent. fronts_below field.selection_set (field_parent schema parent field.name.text);
 }
 
+-- the flags of the set of an inline fragment, which is of the condition's type, or of the type around it without one
 abbrev pub inline_fronts : Schema → InlineFragment-F Fronting Fronting FrontsIn FrontsIn → FrontsIn
 inline_fronts schema fragment owner parent = fragment.selection_set owner (inline_parent schema parent fragment.type_condition)
 
+-- a selection of each form: a spread has no set here, and the set of an inline fragment belongs to a fragment
 abbrev pub selection_fronts : Selection-F Fronting Fronting FrontsIn FrontsIn → Fronting
 selection_fronts (Selection-F.Field field) = field
 selection_fronts (Selection-F.Spread spread) = record { plain = false; inside = λ parent. [] }
 selection_fronts (Selection-F.Inline fragment) = record { plain = false; inside = fragment OfFragment }
 
+-- whether one of the selections is a plain `__typename`
 abbrev pub selects_plainly : List Fronting → Bool
 selects_plainly selections = list_any (λ s. s.plain) selections
 
@@ -93,14 +98,17 @@ abbrev pub set_fronts : Schema → Bool → SelectionSet-F Fronting Fronting Fro
 set_fronts schema subscribes set owner parent =
     is_fronted schema subscribes owner parent (selects_plainly set.selections) ∷ flat_map (λ s. s.inside parent) set.selections
 
+-- the flags of a set and of all sets in it, in a document that has a subscription or not
 abbrev pub fronts_in_set : Schema → Bool → SelectionSet → FrontsIn
 fronts_in_set schema subscribes =
     fold-SelectionSet Fronting Fronting FrontsIn FrontsIn selection_fronts (field_fronts schema) (inline_fronts schema) (set_fronts schema subscribes)
 
+-- the same of a selection: whether it is a plain `__typename`, and the flags of the sets in it
 abbrev pub fronts_in_selection : Schema → Bool → Selection → Fronting
 fronts_in_selection schema subscribes =
     fold-Selection Fronting Fronting FrontsIn FrontsIn selection_fronts (field_fronts schema) (inline_fronts schema) (set_fronts schema subscribes)
 
+-- the flags of all sets of an operation or a fragment, the own set first; a type system definition has none
 abbrev pub definition_fronts : Schema → Bool → Definition → Fronts
 definition_fronts schema subscribes (definition.Operation d) = fronts_in_set schema subscribes d.selection_set OfOperation (root_parent schema d.kind)
 definition_fronts schema subscribes (definition.Fragment d) = fronts_in_set schema subscribes d.selection_set OfFragment (composite_named schema d.type_condition.text)

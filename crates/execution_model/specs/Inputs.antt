@@ -15,6 +15,7 @@ use Rattle.execution_model.specs.Scalars.{Wanted, in_lists}
 pub use Rattle.execution_model.specs.declared.given.Given.{Given}
 pub use Rattle.execution_model.specs.declared.given.Given.TheVariants.{Absent, Refused, Is}
 
+-- a coerced value, or a refusal where there is none
 abbrev pub as_given : Option Value → Given
 as_given None = Refused
 as_given (Some value) = Is value
@@ -40,6 +41,7 @@ item_value Absent = Some null_value
 item_value Refused = None
 item_value (Is value) = Some value
 
+-- the value of an item at the type that is wanted of it; none where it is refused
 abbrev pub item_at : Wanted → Meaning → Option Value
 item_at wanted item = item_value (item wanted)
 
@@ -48,9 +50,11 @@ abbrev pub items_into : Wanted → List Value → List Meaning → Option (List 
 items_into wanted values [] = Some values
 items_into wanted values (item ∷ items) = option_and_then (λ value. items_into wanted (values ++ value ∷ []) items) (item_at wanted item)
 
+-- the values of all items in order; none where one of them is refused
 abbrev pub items_at : Wanted → List Meaning → Option (List Value)
 items_at wanted items = items_into wanted [] items
 
+-- the list of these items, or a refusal where one of them was refused
 abbrev pub as_list : Option (List Value) → Given
 as_list items = as_given (option_map list_value items)
 
@@ -70,7 +74,8 @@ abbrev pub or_default : InputValue → Option Value → Given → Given
 or_default input value Absent = default_given input value
 or_default input value given = given
 
--- the members so far with one more, unless it is absent; of two with one name the first counts, though neither JSON nor validation lets a second through
+-- the members so far with one more, unless it is absent; of two with one name the first counts, though neither JSON nor validation
+-- lets a second through
 abbrev pub next_members : List ℕ → Given → Pairs → Option Pairs
 next_members name Absent members = Some members
 next_members name Refused members = None
@@ -89,6 +94,7 @@ given_of members field = option_map_or (λ meaning. meaning (Some field.1.input_
 abbrev pub default_in : Option Pairs → List ℕ → Option Value
 default_in values field = option_and_then (λ v. entry v field) values
 
+-- an input field's name with what is given for it, or else with its default
 abbrev pub field_member : Option Pairs → List MemberMeaning → List ℕ × InputValue → List ℕ × Given
 field_member values members field = (field.0, or_default field.1 (default_in values field.0) (given_of members field))
 
@@ -96,6 +102,7 @@ field_member values members field = (field.0, or_default field.1 (default_in val
 abbrev pub input_members : Option Pairs → List MemberMeaning → List (List ℕ × InputValue) → Option Pairs
 input_members values members fields = members_into [] (map (field_member values members) fields)
 
+-- a member inside a value for a custom scalar, as it stands
 abbrev pub free_member : MemberMeaning → List ℕ × Given
 free_member member = (member.0, member.1 None)
 
@@ -103,9 +110,11 @@ free_member member = (member.0, member.1 None)
 abbrev pub members_as_given : List MemberMeaning → Option Pairs
 members_as_given members = members_into [] (map free_member members)
 
+-- the object of these members, or a refusal where one of them was refused
 abbrev pub as_object : Option Pairs → Given
 as_object members = as_given (option_map object_value members)
 
+-- the same, in as many lists of one as the type has lists
 abbrev pub as_object_in : TypeRef → Option Pairs → Given
 as_object_in type members = as_given (option_map (λ ms. in_lists type (object_value ms)) members)
 
@@ -113,6 +122,6 @@ as_object_in type members = as_given (option_map (λ ms. in_lists type (object_v
 abbrev pub input_fields_named : Schema → List ℕ → Option (List (List ℕ × InputValue))
 input_fields_named schema name = option_and_then (λ t. input_fields_in t.form) (entry schema.types name)
 
--- an object for a custom scalar, or for no object at all
+-- an object where no input object type is wanted: as it stands for a custom scalar, and refused at any other type
 abbrev pub free_object : Schema → List MemberMeaning → TypeRef → Given
 free_object schema members type = cond (takes_any schema (named_type type)) (as_object_in type (members_as_given members)) Refused

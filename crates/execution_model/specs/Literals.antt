@@ -25,6 +25,7 @@ abbrev pub list_in : Schema → List Meaning → TypeRef-F TypeRef → Given
 list_in schema items (TypeRef-F.Named name required) = cond (takes_any schema name) (as_list (items_at None items)) Refused
 list_in schema items (TypeRef-F.List inner required) = as_list (items_at (Some inner) items)
 
+-- a list at a place: by the type that is wanted, or as it stands where none is
 abbrev pub list_at : Schema → List Meaning → Meaning
 list_at schema items None = as_list (items_at None items)
 list_at schema items (Some type) = list_in schema items (out-TypeRef type)
@@ -34,10 +35,12 @@ abbrev pub object_in : Defaults → Schema → List MemberMeaning → TypeRef �
 object_in defaults schema members type =
     option_map_or (λ fields. as_object_in type (input_members (entry defaults (named_type type)) members fields)) (input_fields_named schema (named_type type)) (free_object schema members type)
 
+-- an object at a place: by the type that is wanted, or as it stands where none is
 abbrev pub object_at : Defaults → Schema → List MemberMeaning → Meaning
 object_at defaults schema members None = as_object (members_as_given members)
 object_at defaults schema members (Some type) = object_in defaults schema members type
 
+-- what a literal of each form is at a place, where its items and fields have these meanings
 abbrev pub value_step : Defaults → Schema → Pairs → LiteralValue-F Meaning Meaning MemberMeaning → Meaning
 value_step defaults schema variables (LiteralValue-F.Variable name) wanted = variable_given variables name
 value_step defaults schema variables (LiteralValue-F.Integer text number) wanted = as_given (integer_at schema number wanted)
@@ -48,9 +51,11 @@ value_step defaults schema variables (LiteralValue-F.Enum word) wanted = as_give
 value_step defaults schema variables (LiteralValue-F.List items) wanted = list_at schema items wanted
 value_step defaults schema variables (LiteralValue-F.Object fields) wanted = object_at defaults schema fields wanted
 
+-- a literal is what its value is; where it stands in the text doesn't matter
 abbrev pub literal_step : Literal-F Meaning Meaning MemberMeaning → Meaning
 literal_step literal = literal.value
 
+-- a field of an object literal: its name, with what its value is at a place
 abbrev pub field_step : ObjectField-F Meaning Meaning MemberMeaning → MemberMeaning
 field_step field = (field.name.text, field.value)
 
@@ -58,8 +63,10 @@ field_step field = (field.name.text, field.value)
 abbrev pub literal_meaning : Defaults → Schema → Pairs → Literal → Meaning
 literal_meaning defaults schema variables = fold-Literal Meaning Meaning MemberMeaning (value_step defaults schema variables) literal_step field_step
 
+-- the same of the value of a literal, without its place in the text
 abbrev pub value_meaning : Defaults → Schema → Pairs → LiteralValue → Meaning
 value_meaning defaults schema variables = fold-LiteralValue Meaning Meaning MemberMeaning (value_step defaults schema variables) literal_step field_step
 
+-- the same of a field of an object literal, with its name
 abbrev pub object_field_meaning : Defaults → Schema → Pairs → ObjectField → MemberMeaning
 object_field_meaning defaults schema variables = fold-ObjectField Meaning Meaning MemberMeaning (value_step defaults schema variables) literal_step field_step

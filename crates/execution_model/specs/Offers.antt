@@ -18,6 +18,7 @@ use Rattle.execution_model.specs.Literals.{list_at}
 abbrev pub are_known : List (List ℕ × InputValue) → List MemberMeaning → Bool
 are_known fields members = list_all (λ m. is_some (entry fields m.0)) members
 
+-- an object of a type with these input fields; refused where a member is none of them (GraphQL October 2021, 3.10)
 abbrev pub known_members : Option Pairs → List MemberMeaning → List (List ℕ × InputValue) → TypeRef → Given
 known_members values members fields type = cond (are_known fields members) (as_object_in type (input_members values members fields)) Refused
 
@@ -26,10 +27,12 @@ abbrev pub object_in : Defaults → Schema → List MemberMeaning → TypeRef �
 object_in defaults schema members type =
     option_map_or (λ fields. known_members (entry defaults (named_type type)) members fields type) (input_fields_named schema (named_type type)) (free_object schema members type)
 
+-- an object at a place: by the type that is wanted, or as it stands where none is
 abbrev pub object_at : Defaults → Schema → List MemberMeaning → Meaning
 object_at defaults schema members None = as_object (members_as_given members)
 object_at defaults schema members (Some type) = object_in defaults schema members type
 
+-- what a given value of each form is at a place, where its items and members have these meanings
 abbrev pub offer_step : Defaults → Schema → Value-F Meaning → Meaning
 offer_step defaults schema Value-F.Null wanted = null_at wanted
 offer_step defaults schema (Value-F.Bool b) wanted = as_given (boolean_at schema b wanted)

@@ -20,9 +20,11 @@ Wanted = Option TypeRef
 abbrev pub Coercing : Type 0
 Coercing = Wanted → Option Value
 
+-- a list with this value as its one item
 abbrev pub list_of_one : Value → Value
 list_of_one value = list_value (value ∷ [])
 
+-- one level of a type: a list type puts what its item type makes of the value into a list of one
 abbrev pub list_level : TypeRef-F (Value → Value) → Value → Value
 list_level (TypeRef-F.Named name required) value = value
 list_level (TypeRef-F.List inner required) value = list_of_one (inner value)
@@ -35,9 +37,11 @@ in_lists = fold-TypeRef (Value → Value) list_level
 abbrev pub value_if : Bool → TypeRef → Value → Option Value
 value_if takes type value = cond takes (Some (in_lists type value)) None
 
+-- what a value becomes at a type, by the name of the type under all lists; nothing where that type doesn't take it
 abbrev pub taken : (List ℕ → Bool) → (List ℕ → Value) → TypeRef → Option Value
 taken takes value type = value_if (takes (named_type type)) type (value (named_type type))
 
+-- the same at a place; where no type is wanted it is the value itself
 abbrev pub taken_at : (List ℕ → Bool) → (List ℕ → Value) → Value → Coercing
 taken_at takes value itself None = Some itself
 taken_at takes value itself (Some type) = taken takes value type
@@ -50,6 +54,7 @@ whole_number n name = cond (bytes_eq name (codes "ID")) (text_value (signed_deci
 abbrev pub integer_at : Schema → ℤ → Coercing
 integer_at schema n = taken_at (takes_integer schema n) (whole_number n) (int_value n)
 
+-- a truth value: a Boolean or a custom scalar
 abbrev pub boolean_at : Schema → Bool → Coercing
 boolean_at schema b = taken_at (takes_boolean schema) (λ name. bool_value b) (bool_value b)
 

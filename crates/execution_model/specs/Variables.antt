@@ -23,11 +23,12 @@ not_given defaults schema variable =
     option_map_or (λ literal. as_given (constant defaults schema literal variable.variable_type.type_ref)) variable.default
     (cond (is_non_null variable.variable_type.type_ref) Refused Absent)
 
+-- what a declared variable becomes: the given value at its type, or else its default; refused where that nests too deep
 abbrev pub variable_meaning : Defaults → Schema → Pairs → VariableDefinition → Given
 variable_meaning defaults schema given variable =
     bounded (option_map_or (λ value. offered defaults schema value (Some variable.variable_type.type_ref)) (entry given variable.name.text) (not_given defaults schema variable))
 
--- the values so far with one more, unless it is absent, or the name of the first variable that is refused
+-- the values of the variables behind, with this one's in front unless it is absent; or the name of the first variable that is refused
 abbrev pub with_variable : List ℕ → Given → Result Pairs (List ℕ) → Result Pairs (List ℕ)
 with_variable name Refused more = Err name
 with_variable name Absent more = more

@@ -14,6 +14,7 @@ pub record IsHead (bytes : List ℕ) (code : ℕ) (ends : Framing) (size : ℕ) 
   pub framing : ends ≡ framing_of head
   pub len : size ≡ length (print_response head)
 
+-- what is judged holds of the bytes: the head is open, it is bad, or it is whole with this status, ending and size
 abbrev pub IsJudgement : List ℕ → Judged → Type 0
 IsJudgement bytes Open = IsOpenResponse bytes
 IsJudgement bytes Bad = IsBadResponse bytes

@@ -21,5 +21,6 @@ IsDecodedForGood = (bytes more : List ℕ) (progress : Progress) → progress �
 abbrev pub IsAskedOnce : Type 0
 IsAskedOnce = (bytes : List ℕ) (one other : Asking) → Asks bytes one → Asks bytes other → one ≡ other
 
+-- what is asked, once no more bytes are wanted for it, stays under further bytes
 abbrev pub IsAskedForGood : Type 0
 IsAskedForGood = (bytes more : List ℕ) (asked : Asking) → asked ≢ wants_more → Asks bytes asked → Asks (bytes ++ more) asked

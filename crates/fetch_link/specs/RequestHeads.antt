@@ -22,6 +22,8 @@ pub record IsRequestHeadAt (bytes : List ℕ) (name target : Span) (ends : Frami
   pub framing : ends ≡ request_framing_of head
   pub len : size ≡ length (print_request head)
 
+-- what is judged holds of the bytes: the head isn't looked at yet, is open, is bad,
+-- or is whole with this method, target, ending and size
 abbrev pub IsRequestJudgement : List ℕ → JudgedRequest → Type 0
 IsRequestJudgement bytes Unread = IsUnread bytes
 IsRequestJudgement bytes Open = IsOpenRequest bytes

@@ -20,7 +20,7 @@ pub fn equal_field_keys()
 {}
 
 /// Equal texts come from equal values, and equal sorted texts exactly from values that are equal but for
-/// the order of members.
+/// the order of members, where of two members with one name the last alone counts.
 pub fn equal_texts()
     ensures plain { TextsByValues }
     ensures sorted { SortedTextsByValues }

@@ -10,9 +10,11 @@ use Rattle.check_model.specs.Sizes.{Bounded, no_size, size_of_set, size_in_fragm
 use Rattle.fragment_rules.specs.declared.fragments.FragmentIndex.{FragmentIndex}
 use Rattle.fragment_rules.specs.Indexes.{place_in}
 
+-- the size of the definition at each place: nothing where a fragment passes a limit, and 0 where it is no fragment
 abbrev pub Table : Type 0
 Table = List Bounded
 
+-- the size that a table has for a place, and 0 behind its end
 abbrev pub size_at : Table → ℕ → Bounded
 size_at table place = unwrap_or (slice_get table place) no_size
 
@@ -20,7 +22,7 @@ size_at table place = unwrap_or (slice_get table place) no_size
 abbrev pub size_in : FragmentIndex → Table → Follow Bounded
 size_in index table name = option_map_or (size_at table) (place_in index name) no_size
 
--- the size of a definition, where that of a spread is given
+-- the size of a fragment, where that of each spread is given; 0 for any other definition
 abbrev pub definition_size : Follow Bounded → Definition → Bounded
 definition_size follow (definition.Fragment f) = size_in_fragment follow f
 definition_size follow _ = no_size

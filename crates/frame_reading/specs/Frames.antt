@@ -9,13 +9,15 @@ use Rattle.machine_model.specs.declared.output.Refusal.TheVariants.{E3}
 use Rattle.frame_reading.specs.Values.{Pairs}
 use Rattle.frame_reading.specs.Members.{number_in, text_in, text_if_given, object_if_given, required, variables_of}
 
--- an operation that a client asks for under its id: a document, the name of an operation in it, and values for its variables (GraphQL over HTTP, request parameters)
+-- an operation that a client asks for under its id: a document, the name of an operation in it, and values for its variables
+-- (GraphQL over HTTP, request parameters)
 pub record Dispatch : Type 0 where
   pub id : ℕ
   pub query : List ℕ
   pub operation : Option (List ℕ)
   pub variables : Pairs
 
+-- what a line asks for: to run an operation, or to take the response to a fetch
 pub data Frame : Type 0 where
   dispatch : Dispatch → Frame
   -- the body that came for a fetch
@@ -27,6 +29,7 @@ json_of line = if is_utf8 line then read line else None
 
 -- ---- a dispatch, member by member in the order in which they are tested
 
+-- the dispatch of these members, unless a number in its variables isn't whole (E11)
 abbrev pub with_variables : ℕ → List ℕ → Option (List ℕ) → Result Pairs Refusal → Result Frame Refusal
 with_variables id query operation (Err refusal) = Err refusal
 with_variables id query operation (Ok variables) = Ok (dispatch (record { id = id; query = query; operation = operation; variables = variables }))
@@ -41,15 +44,18 @@ without_later value id query operation (Ok given) =
     then Err (E3 (codes "then"))
     else with_variables id query operation (variables_of given))
 
+-- behind `operationName`, `variables` is an object, null or absent; else it is the member at fault
 abbrev pub with_operation : Data → ℕ → List ℕ → Result (Option (List ℕ)) Refusal → Result Frame Refusal
 with_operation value id query (Err refusal) = Err refusal
 with_operation value id query (Ok operation) =
     without_later value id query operation (required (codes "variables") (object_if_given (get (codes "variables") value)))
 
+-- behind `query`, `operationName` is a text, null or absent; else it is the member at fault
 abbrev pub with_query : Data → ℕ → Result (List ℕ) Refusal → Result Frame Refusal
 with_query value id (Err refusal) = Err refusal
 with_query value id (Ok query) = with_operation value id query (required (codes "operationName") (text_if_given (get (codes "operationName") value)))
 
+-- behind `id`, `query` is a text; else it is the member at fault
 abbrev pub with_id : Data → Result ℕ Refusal → Result Frame Refusal
 with_id value (Err refusal) = Err refusal
 with_id value (Ok id) = with_query value id (required (codes "query") (text_in (codes "query") value))
@@ -69,11 +75,13 @@ has_dispatch_member value =
 abbrev pub no_frame : Result Frame Refusal
 no_frame = Err (E3 (codes "do"))
 
+-- the response to this fetch with this body; no frame where there is no such number or no body
 abbrev pub response_of : Option ℕ → Option Data → Result Frame Refusal
 response_of None body = no_frame
 response_of (Some fetch) None = no_frame
 response_of (Some fetch) (Some body) = Ok (response fetch body)
 
+-- a response by its members `fetch` and `body`; no frame where it has a member that only a dispatch has
 abbrev pub response_in : Data → Result Frame Refusal
 response_in value = if has_dispatch_member value then no_frame else response_of (number_in (codes "fetch") value) (get (codes "body") value)
 

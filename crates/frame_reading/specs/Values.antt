@@ -15,6 +15,7 @@ integer_of (unsigned n) = pos n
 integer_of (negative n) = n
 integer_of (float x) = pos 0
 
+-- JSON data as a value, with all that is inside its arrays and objects
 abbrev mutual
   -- the value that data is
   pub value_of : Data → Value

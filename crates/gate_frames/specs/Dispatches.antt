@@ -53,6 +53,7 @@ follow_up_fits frame inner_fit (Some kind.Layers) = false
 follow_up_fits frame inner_fit (Some kind.Flat) = false
 follow_up_fits frame inner_fit (Some kind.Quit) = false
 
+-- whether all that follows a frame has its form, with what follows that in turn
 abbrev mutual
   -- the member `then` of a frame is absent, or a list of frames that may follow, at every depth
   pub follow_ups_fit : Data → Bool
@@ -63,10 +64,12 @@ abbrev mutual
   follow_ups_fit (array ds) = true
   follow_ups_fit (object ms) = member_fits ms
 
+  -- the member `then` among these, where there is one, is a list of frames that may follow
   pub member_fits : Members → Bool
   member_fits no_members = true
   member_fits (member name d ms) = if bytes_eq (codes "then") name then list_fits d else member_fits ms
 
+  -- an array of frames that may follow; nothing else is such a list
   pub list_fits : Data → Bool
   list_fits null = false
   list_fits (boolean b) = false
@@ -75,6 +78,7 @@ abbrev mutual
   list_fits (array ds) = all_fit ds
   list_fits (object ms) = false
 
+  -- each of these frames may follow, and so may those that follow it in turn
   pub all_fit : Items → Bool
   all_fit no_items = true
   all_fit (item d ds) = follow_up_fits d (follow_ups_fit d) (kind_of d) && all_fit ds
@@ -117,6 +121,7 @@ dispatch_beside peer line frame (Err path) follow_ups = Err path
 dispatch_beside peer line frame (Ok variables) (Err path) = Err path
 dispatch_beside peer line frame (Ok variables) (Ok follow_ups) = Ok (dispatch_asked peer line frame variables follow_ups)
 
+-- the command of a dispatch, or the path to the number that isn't whole
 abbrev pub as_command : Read Dispatch → Read Command
 as_command (Ok dispatch) = Ok (command.Dispatch dispatch)
 as_command (Err path) = Err path
@@ -139,6 +144,7 @@ one_more at (Err path) behind = Err (codes "then." ++ (decimal at ++ (codes "." 
 one_more at (Ok first) (Err path) = Err path
 one_more at (Ok first) (Ok behind) = Ok (first ∷ behind)
 
+-- what follows a frame as commands, with what follows these in turn, or the path to the first number that isn't whole
 abbrev mutual
   -- the commands that follow a frame, in order
   pub follow_ups_read : ℕ → ℕ → Data → Read (List Command)
@@ -149,10 +155,12 @@ abbrev mutual
   follow_ups_read peer line (array ds) = Ok []
   follow_ups_read peer line (object ms) = member_read peer line ms
 
+  -- the commands of the member `then` among these; none where it is absent
   pub member_read : ℕ → ℕ → Members → Read (List Command)
   member_read peer line no_members = Ok []
   member_read peer line (member name d ms) = if bytes_eq (codes "then") name then list_read peer line d else member_read peer line ms
 
+  -- the commands of the frames in an array; other data, for which the line is refused, has none
   pub list_read : ℕ → ℕ → Data → Read (List Command)
   list_read peer line null = Ok []
   list_read peer line (boolean b) = Ok []
@@ -161,6 +169,7 @@ abbrev mutual
   list_read peer line (array ds) = all_read peer line 0 ds
   list_read peer line (object ms) = Ok []
 
+  -- the commands of these frames, the first of which has the index `at`
   pub all_read : ℕ → ℕ → ℕ → Items → Read (List Command)
   all_read peer line at no_items = Ok []
   all_read peer line at (item d ds) = one_more at (follow_up_read peer line d (follow_ups_read peer line d) (kind_of d)) (all_read peer line (at + 1) ds)

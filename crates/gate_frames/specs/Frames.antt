@@ -39,6 +39,7 @@ abbrev pub dispatch_framed : ℕ → ℕ → Option (List ℕ) → Read Dispatch
 dispatch_framed peer line (Some member) dispatch = misfit peer line member
 dispatch_framed peer line None dispatch = dispatch_run peer line dispatch
 
+-- a teardown of the operation with this `id`, which must be there
 abbrev pub teardown_framed : ℕ → ℕ → Option ℕ → Framed
 teardown_framed peer line None = misfit peer line (codes "id")
 teardown_framed peer line (Some id) = Run (command.Teardown peer id line)
@@ -60,6 +61,7 @@ outcome_given status (Some body) None = Some (outcome_from (body_beside (status_
 outcome_given status None (Some text) = option_map (λ bytes. outcome_from (outcome_meaning status bytes)) (as_str text)
 outcome_given status (Some body) (Some text) = None
 
+-- the response with this outcome, where `body` and `text` give one; else `body` is the member at fault
 abbrev pub outcome_framed : ℕ → ℕ → ℕ → Option Outcome → Framed
 outcome_framed peer line fetch None = misfit peer line (codes "body")
 outcome_framed peer line fetch (Some outcome) = Run (command.Respond peer fetch line outcome)
@@ -71,6 +73,7 @@ response_framed peer line frame (Some fetch) None = misfit peer line (codes "sta
 response_framed peer line frame (Some fetch) (Some status) =
     outcome_framed peer line fetch (outcome_given status (get (codes "body") frame) (get (codes "text") frame))
 
+-- what a frame of this kind comes to, by its own members
 abbrev pub kind_framed : ℕ → ℕ → Data → FrameKind → Framed
 kind_framed peer line frame kind.Dispatch = dispatch_framed peer line (dispatch_misfit frame) (dispatch_read peer line frame)
 kind_framed peer line frame kind.Teardown = teardown_framed peer line (number_in (codes "id") frame)
@@ -81,10 +84,12 @@ kind_framed peer line frame kind.Layers = Run (command.Layers peer)
 kind_framed peer line frame kind.Flat = Run (command.Flat peer)
 kind_framed peer line frame kind.Quit = Quit
 
+-- what JSON comes to by the kind of frame that it names; else `do` is the member at fault
 abbrev pub frame_framed : ℕ → ℕ → Data → Option FrameKind → Framed
 frame_framed peer line frame None = misfit peer line (codes "do")
 frame_framed peer line frame (Some kind) = kind_framed peer line frame kind
 
+-- what a line comes to by the JSON that it is; E2 where it is none
 abbrev pub json_framed : ℕ → ℕ → Option Data → Framed
 json_framed peer line None = refused peer line E2
 json_framed peer line (Some frame) = frame_framed peer line frame (kind_of frame)

@@ -20,6 +20,7 @@ integer_of (float x) = pos 0
 
 -- the value that JSON is (RFC 8259), where its numbers are whole
 abbrev mutual
+  -- the value that data is
   pub value_of : Data → Value
   value_of null = roll-Value Value-F.Null
   value_of (boolean b) = roll-Value (Value-F.Bool b)
@@ -28,14 +29,17 @@ abbrev mutual
   value_of (array ds) = roll-Value (Value-F.List (values_of ds))
   value_of (object ms) = roll-Value (Value-F.Obj (pairs_of ms))
 
+  -- the values of the items of an array
   pub values_of : Items → List Value
   values_of no_items = []
   values_of (item d ds) = value_of d ∷ values_of ds
 
+  -- the names and values of the members of an object
   pub pairs_of : Members → Pairs
   pairs_of no_members = []
   pairs_of (member name d ms) = (name, value_of d) ∷ pairs_of ms
 
+-- the members at the first level of a value, where it is an object, and none otherwise
 abbrev pub level_pairs : Value-F Value → Pairs
 level_pairs Value-F.Null = []
 level_pairs (Value-F.Bool b) = []

@@ -25,6 +25,7 @@ leaf_of (string s) = Some (roll-Value (Value-F.Text s))
 leaf_of (array ds) = None
 leaf_of (object ms) = None
 
+-- whether JSON data is null
 abbrev pub is_null_data : Data → Bool
 is_null_data null = true
 is_null_data (boolean b) = false
@@ -63,6 +64,7 @@ object_written fields entity field answer type_name =
     let key = key_of_object entity field type_name (id_asked fields answer) in
     option_map (λ writes. write entity field (Link key) ∷ writes) (members_written key fields answer)
 
+-- one level of a selection: a field without a set writes a leaf; a field with one writes null, or an object that tells `__typename`
 abbrev pub writing_step : Selection-F Writing → Writing
 writing_step Selection-F.Leaf entity field answer = option_map (λ v. write entity field (Leaf v) ∷ []) (leaf_of answer)
 writing_step (Selection-F.Set fields) entity field answer =
@@ -74,6 +76,7 @@ writing_step (Selection-F.Set fields) entity field answer =
 abbrev pub field_writing : Selection → Writing
 field_writing = fold-Selection Writing writing_step
 
+-- the fields of a selection, each with what its value writes
 abbrev pub writings_of : List (List ℕ × Selection) → List (List ℕ × Writing)
 writings_of selection = map (λ field. (field.0, field_writing field.1)) selection
 

@@ -31,6 +31,7 @@ all_applied map (write ∷ writes) = all_applied (applied map write) writes
 abbrev pub History : Type 0
 History = List (List Write)
 
+-- a map after the writes of some results, one result after another
 abbrev pub flattened_over : CellMap → History → CellMap
 flattened_over map [] = map
 flattened_over map (writes ∷ later) = flattened_over (all_applied map writes) later

@@ -40,7 +40,7 @@ pub record Step : Type 0 where
 abbrev pub refused : ℕ → Refusal → GatewayState → Step
 refused line refusal state = record { text = refused_line line refusal; state = state }
 
--- neither a frame that can be taken now nor JSON of one
+-- E3 with `do`: the frame is one that can't be taken in this state
 abbrev pub no_frame : Refusal
 no_frame = E3 (codes "do")
 
@@ -59,6 +59,7 @@ abbrev pub answered_or_sent : ℕ → List (List ℕ × Selection) → GatewaySt
 answered_or_sent id query state (Some answer) = record { text = reply_line id answer; state = state }
 answered_or_sent id query state None = sent id query state
 
+-- a plain query is read over the flattened map of all present results
 abbrev pub query_taken : ℕ → List (List ℕ × Selection) → GatewayState → Step
 query_taken id query state = answered_or_sent id query state (query_reading (flattened state.history) query)
 
@@ -80,6 +81,7 @@ dispatch_judged line asked state = operation_dispatched line asked.id state (jud
 abbrev pub is_waiting : ℕ → GatewayState → Bool
 is_waiting id state = list_any (λ operation. operation.id == id) state.waiting
 
+-- a dispatch is refused while an operation waits under its id, and is judged otherwise
 abbrev pub dispatched : ℕ → Dispatch → GatewayState → Step
 dispatched line asked state = if is_waiting asked.id state then refused line no_frame state else dispatch_judged line asked state
 
@@ -100,10 +102,12 @@ completed operation writes state =
       state = record { service = state.service; waiting = filter (λ other. not (other.fetch == operation.fetch)) state.waiting; history = history };
     }
 
+-- an answer of the form that was asked completes its operation; any other is refused
 abbrev pub answer_written : ℕ → OpenOperation → GatewayState → Option (List Write) → Step
 answer_written line operation state None = refused line no_frame state
 answer_written line operation state (Some writes) = completed operation writes state
 
+-- a body is taken by the form that its waiting operation asked; without such an operation the line is refused
 abbrev pub response_taken : ℕ → Data → GatewayState → Option OpenOperation → Step
 response_taken line body state None = refused line no_frame state
 response_taken line body state (Some operation) = answer_written line operation state (body_written operation.query body)
@@ -112,11 +116,13 @@ response_taken line body state (Some operation) = answer_written line operation 
 abbrev pub responded : ℕ → ℕ → Data → GatewayState → Step
 responded line fetch body state = response_taken line body state (find (λ operation. operation.fetch == fetch) state.waiting)
 
+-- a frame is taken as the dispatch or the response that it is; JSON that is neither is refused as its reading says
 abbrev pub frame_taken : ℕ → GatewayState → Result Frame Refusal → Step
 frame_taken line state (Err refusal) = refused line refusal state
 frame_taken line state (Ok (dispatch asked)) = dispatched line asked state
 frame_taken line state (Ok (response fetch body)) = responded line fetch body state
 
+-- the frame that JSON is; E2 where the line isn't JSON
 abbrev pub json_taken : ℕ → GatewayState → Option Data → Step
 json_taken line state None = refused line E2 state
 json_taken line state (Some value) = frame_taken line state (frame_of value)

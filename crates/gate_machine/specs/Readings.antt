@@ -12,6 +12,7 @@ use Rattle.gate_machine.specs.declared.cell.Cell.TheVariants.{Leaf, Link}
 use Rattle.gate_machine.specs.Cells.{CellMap}
 use Rattle.gate_machine.specs.Keys.{query_root}
 
+-- one level of a value is null, whatever is known of the values inside
 abbrev pub null_step : Value-F Bool → Bool
 null_step Value-F.Null = true
 null_step (Value-F.Bool b) = false
@@ -20,12 +21,15 @@ null_step (Value-F.Text s) = false
 null_step (Value-F.List vs) = false
 null_step (Value-F.Obj ms) = false
 
+-- whether a value is null
 abbrev pub is_null : Value → Bool
 is_null = fold-Value Bool null_step
 
+-- the null value
 abbrev pub null_value : Value
 null_value = roll-Value Value-F.Null
 
+-- the object with these members
 abbrev pub object_value : List (List ℕ × Value) → Value
 object_value members = roll-Value (Value-F.Obj members)
 
@@ -49,6 +53,7 @@ abbrev pub object_read : CellMap → List (List ℕ × Reading) → Cell → Opt
 object_read cells fields (Leaf v) = if is_null v then Some v else None
 object_read cells fields (Link entity) = option_map object_value (members_read cells entity fields)
 
+-- one level of a selection: a field without a set reads a leaf, a field with one reads null or the object behind a link
 abbrev pub reading_step : Selection-F Reading → Reading
 reading_step Selection-F.Leaf cells entity field = option_and_then leaf_read (cells entity field)
 reading_step (Selection-F.Set fields) cells entity field = option_and_then (object_read cells fields) (cells entity field)
@@ -57,6 +62,7 @@ reading_step (Selection-F.Set fields) cells entity field = option_and_then (obje
 abbrev pub field_reading : Selection → Reading
 field_reading = fold-Selection Reading reading_step
 
+-- the fields of a selection, each with what it reads
 abbrev pub readings_of : List (List ℕ × Selection) → List (List ℕ × Reading)
 readings_of selection = map (λ field. (field.0, field_reading field.1)) selection
 

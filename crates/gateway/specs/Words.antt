@@ -24,9 +24,11 @@ input_limit (Some names) = names.limit
 
 -- ---- numbers
 
+-- a decimal digit, bytes 48 to 57
 abbrev pub is_digit : ℕ → Bool
 is_digit b = nat_le 48 b && nat_le b 57
 
+-- a number with one more decimal digit behind it
 abbrev pub with_digit : ℕ → ℕ → ℕ
 with_digit n b = n * 10 + (b - 48)
 
@@ -59,6 +61,7 @@ limit_in [] = Some default_limit
 limit_in (option ∷ number ∷ []) = if bytes_eq option (codes "--max-input") then limit_of number else None
 limit_in _ = None
 
+-- the names of the two files with a limit, where the words give one
 abbrev pub named : List ℕ → List ℕ → Option ℕ → Option Names
 named schema rules limit = option_map (λ n. record { schema = schema; rules = rules; limit = n }) limit
 

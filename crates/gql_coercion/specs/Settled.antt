@@ -13,6 +13,7 @@ abbrev pub rounds : ℕ → Schema → Defaults
 rounds zero schema = []
 rounds (suc n) schema = values_by (rounds n schema) schema
 
+-- how many input fields a type has; only an input object type has any
 abbrev pub form_fields : TypeForm → ℕ
 form_fields (form.Input fields) = length fields
 form_fields _ = 0

@@ -1,4 +1,4 @@
--- The parser of documents.
+-- The parser of documents (GraphQL October 2021, 2.2).
 use Rattle.std.specs.Prelude.{◌≡◌, ℕ, Bool, true, false, List, [], ◌∷◌, ◌++◌, Result, Ok, Err, nat_eq, if◌then◌else◌, codes}
 use Rattle.gql_tokens.specs.Tokens.{Token, tokens_of}
 use Rattle.gql_tokens.specs.Cursors.{first_kind}
@@ -19,9 +19,11 @@ use Rattle.gql_documents.specs.TypeSystems.{type_system}
 abbrev pub operation_start : List Sort
 operation_start = Mark kind.BraceOpen ∷ Word (codes "query") ∷ Word (codes "mutation") ∷ Word (codes "subscription") ∷ []
 
+-- the words with which schema, scalar type, object type and interface definitions begin
 abbrev pub first_forms : List Sort
 first_forms = Word (codes "schema") ∷ Word (codes "scalar") ∷ Word (codes "type") ∷ Word (codes "interface") ∷ []
 
+-- the words with which union, enum, input object type and directive definitions begin
 abbrev pub last_forms : List Sort
 last_forms = Word (codes "union") ∷ Word (codes "enum") ∷ Word (codes "input") ∷ Word (codes "directive") ∷ []
 
@@ -33,6 +35,7 @@ type_system_start = mark kind.String ++ first_forms ++ last_forms
 abbrev pub definition_start : List Sort
 definition_start = word (codes "fragment") ++ operation_start ++ type_system_start
 
+-- Definition: a fragment where the name `fragment` stands, an operation where one begins, else a type system definition
 unfoldable pub definition : Parser Definition
 definition =
     either (word (codes "fragment")) (via of_fragment fragment) (either operation_start (via of_operation operation) (via of_type_system type_system))
@@ -41,14 +44,16 @@ definition =
 abbrev pub ends : List Token → Bool
 ends ts = nat_eq (rank (first_kind ts)) (rank kind.End)
 
+-- Definition*: one more wherever a token follows with which a definition begins
 unfoldable pub definitions : Parser (List Definition)
 definitions = many definition_start definition
 
--- the document of these definitions if nothing is left behind them, or the place of the fault
+-- the document of these definitions, if there is one at least and nothing is left behind them, or the place of the fault
 abbrev pub whole : List Definition → List Token → Result Document Place
 whole [] rest = Err (place_of rest)
 whole (d ∷ all) rest = if ends rest then Ok (record { definitions = d ∷ all }) else Err (place_of rest)
 
+-- what the reading of definitions comes to: the document of all that were read, or the place of the token at fault
 abbrev pub judged : Outcome (List Definition) → Result Document Place
 judged (Done all rest) = whole all rest
 judged (Fail rest) = Err (place_of rest)

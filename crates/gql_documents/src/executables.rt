@@ -29,7 +29,7 @@ pub fn default_if_any(alloc: Global, tokens: &mut Cursor<'_>) -> Result<Option<L
     Ok(Some(value(alloc, tokens, true)?))
 }
 
-// Variable = "$" Name ":" Type Default? ConstDirectives
+// VariableDefinition = "$" Name ":" Type Default? ConstDirectives
 #[tactic(auto, unfolding(crate::specs::Executables::variable_definition, crate::specs::Parsing::here, crate::specs::Parsing::behind, crate::specs::Parsing::via, crate::specs::Parsing::seq))]
 fn variable_definition(
     alloc: Global,
@@ -54,7 +54,7 @@ fn variable_definition(
     })
 }
 
-// Variable*
+// VariableDefinition*
 fn more_variables(
     alloc: Global,
     tokens: &mut Cursor<'_>,
@@ -70,7 +70,7 @@ fn more_variables(
     Ok(all)
 }
 
-// Variables = "(" Variable+ ")"
+// VariableDefinitions = "(" VariableDefinition+ ")"
 #[tactic(auto, unfolding(crate::specs::Executables::variables, crate::specs::Parsing::between, crate::specs::Parsing::behind, crate::specs::Parsing::before, crate::specs::Parsing::more, crate::specs::Parsing::via, crate::specs::Parsing::seq))]
 fn variables(
     alloc: Global,
@@ -88,7 +88,7 @@ fn variables(
     Ok(all)
 }
 
-// Variables?
+// VariableDefinitions?
 #[tactic(auto, unfolding(crate::specs::Executables::variables_if_any, crate::specs::Parsing::perhaps, crate::specs::Parsing::opt, crate::specs::Parsing::via))]
 fn variables_if_any(
     alloc: Global,
@@ -132,7 +132,7 @@ fn short(alloc: Global, tokens: &mut Cursor<'_>, place: Place) -> Result<Operati
     })
 }
 
-// OperationType Name? Variables? Directives Set
+// OperationType Name? VariableDefinitions? Directives Set
 #[tactic(auto, unfolding(crate::specs::Executables::long, crate::specs::Parsing::via, crate::specs::Parsing::seq))]
 fn long(alloc: Global, tokens: &mut Cursor<'_>, place: Place) -> Result<Operation, ParseError>
     ensures reads { Reads (spec.long place tokens.old) result tokens.new }
@@ -153,7 +153,7 @@ fn long(alloc: Global, tokens: &mut Cursor<'_>, place: Place) -> Result<Operatio
     })
 }
 
-// Operation = Set | OperationType Name? Variables? Directives Set
+// Operation = Set | OperationType Name? VariableDefinitions? Directives Set
 #[tactic(auto, unfolding(crate::specs::Executables::operation, crate::specs::Parsing::here, crate::specs::Parsing::either))]
 pub fn operation(alloc: Global, tokens: &mut Cursor<'_>) -> Result<Operation, ParseError>
     ensures reads { Reads (spec.operation tokens.old) result tokens.new }

@@ -130,7 +130,7 @@ fn union(alloc: Global, tokens: &mut Cursor<'_>) -> Result<TypeSystemForm, Parse
     }))
 }
 
-// Desc? EnumName ConstDirectives
+// Desc? EnumValue ConstDirectives
 #[tactic(auto, unfolding(crate::specs::TypeSystems::enum_value, crate::specs::Parsing::via, crate::specs::Parsing::seq))]
 fn enum_value(alloc: Global, tokens: &mut Cursor<'_>) -> Result<EnumValueDefinition, ParseError>
     ensures reads { Reads (spec.enum_value tokens.old) result tokens.new }
@@ -146,7 +146,7 @@ fn enum_value(alloc: Global, tokens: &mut Cursor<'_>) -> Result<EnumValueDefinit
     })
 }
 
-// EnumValue*
+// EnumValueDefinition*
 fn more_enum_values(
     alloc: Global,
     tokens: &mut Cursor<'_>,
@@ -162,7 +162,7 @@ fn more_enum_values(
     Ok(all)
 }
 
-// "{" EnumValue+ "}"
+// "{" EnumValueDefinition+ "}"
 #[tactic(auto, unfolding(crate::specs::TypeSystems::enum_values, crate::specs::Parsing::between, crate::specs::Parsing::behind, crate::specs::Parsing::before, crate::specs::Parsing::more, crate::specs::Parsing::via, crate::specs::Parsing::seq))]
 fn enum_values(
     alloc: Global,
@@ -180,7 +180,7 @@ fn enum_values(
     Ok(all)
 }
 
-// ("{" EnumValue+ "}")?
+// ("{" EnumValueDefinition+ "}")?
 #[tactic(auto, unfolding(crate::specs::TypeSystems::enum_values_if_any, crate::specs::Parsing::perhaps, crate::specs::Parsing::opt, crate::specs::Parsing::via))]
 fn enum_values_if_any(
     alloc: Global,
@@ -195,7 +195,7 @@ fn enum_values_if_any(
     enum_values(alloc, tokens)
 }
 
-// Enum = "enum" Name ConstDirectives ("{" EnumValue+ "}")?
+// Enum = "enum" Name ConstDirectives ("{" EnumValueDefinition+ "}")?
 #[tactic(auto, unfolding(crate::specs::TypeSystems::enumeration, crate::specs::Parsing::behind, crate::specs::Parsing::via, crate::specs::Parsing::seq))]
 fn enumeration(alloc: Global, tokens: &mut Cursor<'_>) -> Result<TypeSystemForm, ParseError>
     ensures reads { Reads (spec.enumeration tokens.old) result tokens.new }
@@ -222,7 +222,7 @@ fn locations(alloc: Global, tokens: &mut Cursor<'_>) -> Result<Items<Name>, Pars
     listed_by(alloc, tokens, Kind::Pipe)
 }
 
-// Directive = "directive" "@" Name Inputs? "repeatable"? "on" "|"? Name ("|" Name)*
+// DirectiveDefinition = "directive" "@" Name Inputs? "repeatable"? "on" "|"? Name ("|" Name)*
 #[tactic(auto, unfolding(crate::specs::TypeSystems::directive_definition, crate::specs::Parsing::behind, crate::specs::Parsing::via, crate::specs::Parsing::seq))]
 fn directive_definition(
     alloc: Global,
@@ -245,7 +245,7 @@ fn directive_definition(
     }))
 }
 
-// Union | Enum | Input | Directive
+// Union | Enum | Input | DirectiveDefinition
 #[tactic(auto, unfolding(crate::specs::TypeSystems::form_from_union, crate::specs::Parsing::either))]
 fn form_from_union(alloc: Global, tokens: &mut Cursor<'_>) -> Result<TypeSystemForm, ParseError>
     ensures reads { Reads (spec.form_from_union tokens.old) result tokens.new }
@@ -263,7 +263,7 @@ fn form_from_union(alloc: Global, tokens: &mut Cursor<'_>) -> Result<TypeSystemF
     directive_definition(alloc, tokens)
 }
 
-// Schema | Scalar | Object | Interface | Union | Enum | Input | Directive
+// Schema | Scalar | Object | Interface | Union | Enum | Input | DirectiveDefinition
 #[tactic(auto, unfolding(crate::specs::TypeSystems::form, crate::specs::Parsing::either))]
 fn form(alloc: Global, tokens: &mut Cursor<'_>) -> Result<TypeSystemForm, ParseError>
     ensures reads { Reads (spec.form tokens.old) result tokens.new }
@@ -284,7 +284,7 @@ fn form(alloc: Global, tokens: &mut Cursor<'_>) -> Result<TypeSystemForm, ParseE
     form_from_union(alloc, tokens)
 }
 
-// TypeSystem = Desc? (Schema | Scalar | Object | Interface | Union | Enum | Input | Directive)
+// TypeSystem = Desc? (Schema | Scalar | Object | Interface | Union | Enum | Input | DirectiveDefinition)
 #[tactic(auto, unfolding(crate::specs::TypeSystems::type_system, crate::specs::Parsing::here, crate::specs::Parsing::via, crate::specs::Parsing::seq))]
 pub fn type_system(alloc: Global, tokens: &mut Cursor<'_>) -> Result<TypeSystem, ParseError>
     ensures reads { Reads (spec.type_system tokens.old) result tokens.new }

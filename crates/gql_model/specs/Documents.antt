@@ -16,12 +16,15 @@ use Rattle.gql_model.specs.Rules.{Rule, Made, Either, Touch}
 use Rattle.gql_model.specs.Executables.{OperationRule, FragmentRule}
 use Rattle.gql_model.specs.TypeSystems.{TypeSystemRule}
 
+-- an operation as a definition of a document
 abbrev pub of_operation : Operation → Definition
 of_operation d = definition.Operation d
 
+-- a fragment definition as a definition of a document
 abbrev pub of_fragment : Fragment → Definition
 of_fragment d = definition.Fragment d
 
+-- a type system definition as a definition of a document
 abbrev pub of_type_system : TypeSystem → Definition
 of_type_system d = definition.TypeSystem d
 
@@ -47,6 +50,7 @@ abbrev pub takes_brace : Definition → Bool
 takes_brace (definition.TypeSystem d) = leaves_out_braces d.form
 takes_brace _ = false
 
+-- the tokens that a definition would take as its own if they stood next: a `{` where its part in braces is left out, else none
 abbrev pub goes_on_with : Definition → List Sort
 goes_on_with d = if takes_brace d then mark kind.BraceOpen else []
 

@@ -15,21 +15,27 @@ use Rattle.gql_model.specs.Names.{NameRule}
 
 -- ---- the values of one token
 
+-- the variable of this name, without its `$` (2.10)
 abbrev pub variable_of : Name → LiteralValue
 variable_of name = roll-LiteralValue (LiteralValue-F.Variable name.text)
 
+-- the integer that a token with this text is: its text, and the number that it spells (2.9.1)
 abbrev pub integer_of : List ℕ → LiteralValue
 integer_of text = roll-LiteralValue (LiteralValue-F.Integer text (integer_value_of text))
 
+-- the string that a token with this text is: what the string or block string means (2.9.4)
 abbrev pub string_of : List ℕ → LiteralValue
 string_of text = roll-LiteralValue (LiteralValue-F.String (string_value_of text))
 
+-- `true` or `false` as a value (2.9.3)
 abbrev pub boolean_of : Bool → LiteralValue
 boolean_of b = roll-LiteralValue (LiteralValue-F.Boolean b)
 
+-- `null` as a value (2.9.5)
 abbrev pub null : LiteralValue
 null = roll-LiteralValue LiteralValue-F.Null
 
+-- the enum value of this name (2.9.6)
 abbrev pub enum_of : List ℕ → LiteralValue
 enum_of text = roll-LiteralValue (LiteralValue-F.Enum text)
 
@@ -47,6 +53,7 @@ plain_value kind.String text = Some (string_of text)
 plain_value kind.Name text = Some (named_value text)
 plain_value _ text = None
 
+-- the value that a token is by itself: an integer, a string or a name has one, any other token has none
 abbrev pub plain : Token → Option LiteralValue
 plain x = plain_value x.kind x.text
 
@@ -56,15 +63,19 @@ PlainRule = One plain
 
 -- ---- values in values
 
+-- these values in order, as a list value (2.9.7)
 abbrev pub list_of : List Literal → LiteralValue
 list_of values = roll-LiteralValue (LiteralValue-F.List values)
 
+-- these fields in order, as an input object value (2.9.8)
 abbrev pub object_of : List ObjectField → LiteralValue
 object_of fields = roll-LiteralValue (LiteralValue-F.Object fields)
 
+-- a value with the place where it begins
 abbrev pub literal_of : Place → LiteralValue → Literal
 literal_of place value = roll-Literal (record { place = place; value = value })
 
+-- a field of an input object value: its name and its value (2.9.8)
 abbrev pub object_field_of : Name × Literal → ObjectField
 object_field_of p = roll-ObjectField (record { name = p.0; value = p.1 })
 
@@ -89,5 +100,6 @@ abbrev pub ValueOver : Bool → Rule Literal → Rule Literal
 ValueOver constant Inner =
     Here (λ place. Made (literal_of place) (Either (ListRule Inner) (Either (ObjectRule Inner) (Either (Unless constant VariableRule) PlainRule))))
 
+-- Value, with lists and objects nested to any depth; where `constant` is true, no variable stands anywhere in it
 abbrev pub ValueRule : Bool → Rule Literal
 ValueRule constant = Nested (ValueOver constant)

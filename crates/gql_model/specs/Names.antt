@@ -10,6 +10,7 @@ use Rattle.gql_tokens.specs.declared.token.Kind.TheVariants as kind
 abbrev pub name_in : List Sort → Token → Option Name
 name_in sorts x = if is_in sorts x then Some (record { place = x.place; text = x.text }) else None
 
+-- every token that is a name
 abbrev pub any_name : List Sort
 any_name = mark kind.Name
 
@@ -21,6 +22,7 @@ NameRule = One (name_in any_name)
 abbrev pub fragment_name : List Sort
 fragment_name = Unlike (codes "on" ∷ []) ∷ []
 
+-- one token that is a FragmentName, as a name with its place (2.8)
 abbrev pub FragmentNameRule : Rule Name
 FragmentNameRule = One (name_in fragment_name)
 
@@ -28,5 +30,6 @@ FragmentNameRule = One (name_in fragment_name)
 abbrev pub enum_name : List Sort
 enum_name = Unlike (codes "true" ∷ codes "false" ∷ codes "null" ∷ []) ∷ []
 
+-- one token that is an EnumValue, as a name with its place (2.9.6)
 abbrev pub EnumNameRule : Rule Name
 EnumNameRule = One (name_in enum_name)

@@ -5,6 +5,7 @@ use Rattle.gql_tokens.specs.Cursors.{first_place}
 use Rattle.gql_tokens.specs.declared.token.Place.{Place}
 use Rattle.gql_model.specs.Sorts.{Sort, is_in, starts}
 
+-- which lists of tokens derive which trees of this type
 abbrev pub Rule : Type 0 → Type 1
 Rule A = List Token → A → Type 0
 
@@ -12,10 +13,12 @@ Rule A = List Token → A → Type 0
 abbrev pub One : {A : Type 0} → (Token → Option A) → Rule A
 One value front a = (x : Token) × (front ≡ x ∷ []) × (value x ≡ Some a)
 
+-- the value that tells nothing where the flag is true, and none where it is false
 abbrev pub unit_if : Bool → Option (Unit {0})
 unit_if true = Some tt
 unit_if false = None
 
+-- a token of one of these sorts has the value that tells nothing; any other has none
 abbrev pub the : List Sort → Token → Option (Unit {0})
 the sorts x = unit_if (is_in sorts x)
 
@@ -79,6 +82,7 @@ Nested F front a = (n : ℕ) × Depth F n front a
 
 -- ---- forms that many productions share
 
+-- the second of two parts
 abbrev pub last : {A B : Type 0} → A × B → B
 last p = p.1
 
@@ -86,6 +90,7 @@ last p = p.1
 abbrev pub Behind : {A : Type 0} → List Sort → Rule A → Rule A
 Behind sorts R = Made last (Seq (The sorts) R)
 
+-- the first of two parts, of which the second tells nothing
 abbrev pub former : {A : Type 0} → A × Unit {0} → A
 former p = p.0
 
@@ -101,6 +106,7 @@ Whether sorts = Made is_some (Opt (The sorts))
 abbrev pub Between : {A : Type 0} → List Sort → List Sort → Rule A → Rule A
 Between left right R = Behind left (Before right R)
 
+-- a part and those that follow it, as one list
 abbrev pub cons : {A : Type 0} → A × List A → List A
 cons p = p.0 ∷ p.1
 
@@ -108,6 +114,7 @@ cons p = p.0 ∷ p.1
 abbrev pub More : {A : Type 0} → Rule A → Rule (List A)
 More R = Made cons (Seq R (Many R))
 
+-- the list where it is there, and the empty list where it is left out
 abbrev pub or_none : {A : Type 0} → Option (List A) → List A
 or_none None = []
 or_none (Some all) = all

@@ -41,6 +41,7 @@ pub data Sort : Type 0 where
   Word : (word : List ℕ) → Sort
   Unlike : (words : List (List ℕ)) → Sort
 
+-- the token is of this sort: it has the kind, or is the name that is the word, or is a name that is none of the words
 abbrev pub is_of : Sort → Token → Bool
 is_of (Mark k) x = has_kind k x
 is_of (Word word) x = has_kind kind.Name x && bytes_eq x.text word
@@ -56,8 +57,10 @@ abbrev pub starts : List Sort → List Token → Bool
 starts sorts [] = false
 starts sorts (x ∷ rest) = is_in sorts x
 
+-- one sort alone: any token of this kind
 abbrev pub mark : Kind → List Sort
 mark k = Mark k ∷ []
 
+-- one sort alone: the name that is this text
 abbrev pub word : List ℕ → List Sort
 word text = Word text ∷ []

@@ -15,9 +15,11 @@ abbrev pub type_of : (Name ⊎ TypeNode) × Bool → TypeNode
 type_of (inl name, bang) = record { place = name.place; type_ref = roll-TypeRef (TypeRef-F.Named name.text bang) }
 type_of (inr inner, bang) = record { place = inner.place; type_ref = roll-TypeRef (TypeRef-F.List inner.type_ref bang) }
 
+-- a name, as what a type is made of but for its `!`
 abbrev pub of_name : Name → Name ⊎ TypeNode
 of_name name = inl name
 
+-- the type between brackets, as what a list type is made of but for its `!`
 abbrev pub of_type : TypeNode → Name ⊎ TypeNode
 of_type inner = inr inner
 
@@ -25,5 +27,6 @@ of_type inner = inr inner
 abbrev pub TypeOver : Rule TypeNode → Rule TypeNode
 TypeOver Inner = Made type_of (Seq (Either (Made of_name NameRule) (Made of_type (Between (mark kind.BracketOpen) (mark kind.BracketClose) Inner))) (Whether (mark kind.Bang)))
 
+-- Type, with list types in list types to any depth
 abbrev pub TypeRule : Rule TypeNode
 TypeRule = Nested TypeOver

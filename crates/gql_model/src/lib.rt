@@ -1,6 +1,6 @@
-//! The trees of GraphQL documents, and what they mean as texts: which tokens derive which tree, where
-//! a text that is no document is at fault, and the canonical text of a tree. It stands on the texts and
-//! lists of `text_types` and on the tokens of `gql_tokens`.
+//! The trees of GraphQL documents, and what they mean as texts: which tokens derive which tree, and
+//! where a text that is no document is at fault. It stands on the texts and lists of `text_types` and
+//! on the tokens of `gql_tokens`.
 //!
 //! There is one type for each production of the grammar, with its parts in order and the place where
 //! its first token stands. A part that may be left out is an `Option`, and a list that may be left out

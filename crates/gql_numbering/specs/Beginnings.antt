@@ -11,6 +11,7 @@ use Rattle.gql_model.specs.declared.document.Definition.{Definition}
 use Rattle.gql_model.specs.declared.document.Document.{Document}
 use Rattle.gql_numbering.specs.Parts.{selections_of, inner_set, as_field, set_of_definition}
 
+-- what may begin at a point of a document: a selection set or a field
 pub data Beginning : Type 0 where
   OfSet : (set : SelectionSet) → Beginning
   OfField : (field : Field) → Beginning
@@ -34,14 +35,17 @@ abbrev pub in_selections : List (Option Inside) → List Selection → List Begi
 in_selections (inside ∷ more) (selection ∷ rest) = (itself (as_field selection) ++ in_inner inside (inner_set selection)) ++ in_selections more rest
 in_selections _ _ = []
 
+-- one level of a selection: what begins in the set that it carries; a field may carry one, a spread carries none
 abbrev pub in_selection : Selection-F (Option Inside) (Option Inside) Inside Inside → Option Inside
 in_selection (Selection-F.Field inside) = inside
 in_selection (Selection-F.Spread spread) = None
 in_selection (Selection-F.Inline inside) = Some inside
 
+-- one level of a field: what begins in its selection set, where it has one
 abbrev pub in_field : Field-F (Option Inside) (Option Inside) Inside Inside → Option Inside
 in_field field = field.selection_set
 
+-- one level of an inline fragment: what begins in its selection set
 abbrev pub in_inline : InlineFragment-F (Option Inside) (Option Inside) Inside Inside → Inside
 in_inline fragment = fragment.selection_set
 
@@ -49,9 +53,11 @@ in_inline fragment = fragment.selection_set
 abbrev pub in_set : SelectionSet-F (Option Inside) (Option Inside) Inside Inside → Inside
 in_set level set = OfSet set ∷ in_selections level.selections (selections_of set)
 
+-- what begins in this set, once the set itself is handed in again
 abbrev pub inside_set : SelectionSet → Inside
 inside_set = fold-SelectionSet (Option Inside) (Option Inside) Inside Inside in_selection in_field in_inline in_set
 
+-- what begins in the set that a selection carries, where it carries one, once that set is handed in
 abbrev pub inside_selection : Selection → Option Inside
 inside_selection = fold-Selection (Option Inside) (Option Inside) Inside Inside in_selection in_field in_inline in_set
 
@@ -59,6 +65,7 @@ inside_selection = fold-Selection (Option Inside) (Option Inside) Inside Inside 
 abbrev pub beginnings_in : SelectionSet → List Beginning
 beginnings_in set = inside_set set set
 
+-- what begins in a selection set that may be left out
 abbrev pub beginnings_in_optional : Option SelectionSet → List Beginning
 beginnings_in_optional None = []
 beginnings_in_optional (Some set) = beginnings_in set
@@ -67,6 +74,7 @@ beginnings_in_optional (Some set) = beginnings_in set
 abbrev pub beginnings_at : Selection → List Beginning
 beginnings_at selection = itself (as_field selection) ++ beginnings_in_optional (inner_set selection)
 
+-- what begins in the selection set of a definition; nothing does in a type system definition
 abbrev pub beginnings_in_definition : Definition → List Beginning
 beginnings_in_definition definition = beginnings_in_optional (set_of_definition definition)
 
@@ -74,11 +82,13 @@ beginnings_in_definition definition = beginnings_in_optional (set_of_definition 
 abbrev pub beginnings_of : Document → List Beginning
 beginnings_of document = flat_map beginnings_in_definition document.definitions
 
+-- the selection sets among these, in order
 abbrev pub sets_among : List Beginning → List SelectionSet
 sets_among [] = []
 sets_among (OfSet set ∷ more) = set ∷ sets_among more
 sets_among (OfField field ∷ more) = sets_among more
 
+-- the fields among these, in order
 abbrev pub fields_among : List Beginning → List Field
 fields_among [] = []
 fields_among (OfSet set ∷ more) = fields_among more

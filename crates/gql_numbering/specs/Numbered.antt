@@ -43,18 +43,22 @@ Hung = Home → Numbering → Numbering
 abbrev pub Spotted : Type 0
 Spotted = Spot → Numbering → Numbering
 
+-- numbers the selection set of a field at this spot, where the field has one
 abbrev pub optional_at : Option Hung → Spotted
 optional_at None spot numbering = numbering
 optional_at (Some hung) spot numbering = hung (home.Selection spot) numbering
 
+-- one level of a selection: a field is numbered at its spot, a spread changes nothing, the set of an inline fragment hangs at the spot
 abbrev pub selection_step : Selection-F Spotted Spotted Hung Hung → Spotted
 selection_step (Selection-F.Field field) spot numbering = field spot numbering
 selection_step (Selection-F.Spread spread) spot numbering = numbering
 selection_step (Selection-F.Inline fragment) spot numbering = fragment (home.Selection spot) numbering
 
+-- one level of a field: the field gets the next number, and then its selection set is numbered
 abbrev pub field_step : Field-F Spotted Spotted Hung Hung → Spotted
 field_step field spot numbering = optional_at field.selection_set spot (with_field spot numbering)
 
+-- one level of an inline fragment: its selection set hangs where the fragment stands
 abbrev pub inline_step : InlineFragment-F Spotted Spotted Hung Hung → Hung
 inline_step fragment = fragment.selection_set
 
@@ -64,18 +68,23 @@ through [] number at turn = turn
 through (selection ∷ rest) number at turn =
     through rest number (at + 1) (record { marks = turn.marks ++ mark_in turn.numbering ∷ []; numbering = selection (record { set = number; at = at }) turn.numbering })
 
+-- one level of a set: it gets the next number, its selections are numbered in order, and it closes with their marks
 abbrev pub set_step : SelectionSet-F Spotted Spotted Hung Hung → Hung
 set_step set here numbering = closed (length numbering.homes) (through set.selections (length numbering.homes) 0 (record { marks = []; numbering = opened here numbering }))
 
+-- numbers a selection set that hangs here, and all that is in it
 abbrev pub numbered_set : SelectionSet → Hung
 numbered_set = fold-SelectionSet Spotted Spotted Hung Hung selection_step field_step inline_step set_step
 
+-- numbers a selection at this spot, and all that is in it
 abbrev pub numbered_selection : Selection → Spotted
 numbered_selection = fold-Selection Spotted Spotted Hung Hung selection_step field_step inline_step set_step
 
+-- numbers a field at this spot, and all that is in it
 abbrev pub numbered_field : Field → Spotted
 numbered_field = fold-Field Spotted Spotted Hung Hung selection_step field_step inline_step set_step
 
+-- numbers a selection set that may be left out, which hangs here, and all that is in it
 abbrev pub numbered_optional : Option SelectionSet → Hung
 numbered_optional None here numbering = numbering
 numbered_optional (Some set) here numbering = numbered_set set here numbering
@@ -85,10 +94,12 @@ abbrev pub numbered_definition : Definition → ℕ → Numbering → Numbering
 numbered_definition definition at numbering =
     numbered_optional (set_of_definition definition) (home.Definition at) (record numbering { definitions = numbering.definitions ++ mark_in numbering ∷ [] })
 
+-- numbers definitions in order, where the first is the one at `at` of the document
 abbrev pub numbered_definitions : List Definition → ℕ → Numbering → Numbering
 numbered_definitions [] at numbering = numbering
 numbered_definitions (definition ∷ rest) at numbering = numbered_definitions rest (at + 1) (numbered_definition definition at numbering)
 
+-- the numbering before anything is numbered
 abbrev pub empty : Numbering
 empty = record { homes = []; spots = []; marks = []; definitions = [] }
 

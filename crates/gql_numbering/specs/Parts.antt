@@ -16,6 +16,7 @@ selections_of set = (out-SelectionSet set).selections
 abbrev pub set_of_field : Field → Option SelectionSet
 set_of_field field = (out-Field field).selection_set
 
+-- one level of a selection: the set that it carries; a spread carries none
 abbrev pub inner_set_in : Selection-F Selection Field InlineFragment SelectionSet → Option SelectionSet
 inner_set_in (Selection-F.Field field) = set_of_field field
 inner_set_in (Selection-F.Spread spread) = None
@@ -25,6 +26,7 @@ inner_set_in (Selection-F.Inline fragment) = Some fragment.selection_set
 abbrev pub inner_set : Selection → Option SelectionSet
 inner_set selection = inner_set_in (out-Selection selection)
 
+-- one level of a selection: the field that it is; a spread and an inline fragment are none
 abbrev pub as_field_in : Selection-F Selection Field InlineFragment SelectionSet → Option Field
 as_field_in (Selection-F.Field field) = Some field
 as_field_in (Selection-F.Spread spread) = None

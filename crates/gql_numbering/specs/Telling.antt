@@ -33,5 +33,6 @@ TellDefinitions all (mark ∷ marks) (definition ∷ rest) =
     ((set : SelectionSet) → set_of_definition definition ≡ Some set → slice_get (sets_among all) mark.sets ≡ Some set) × TellDefinitions all marks rest
 TellDefinitions all _ _ = ⊥
 
+-- each definition of a document has one mark, and where it has a selection set the mark tells the number of that set
 abbrev pub DefinitionMarksTell : Type 0
 DefinitionMarksTell = (document : Document) → TellDefinitions (beginnings_of document) (definition_marks document) document.definitions

@@ -24,7 +24,7 @@ pub fn kind_word(kind: OperationKind) -> &'static str
     }
 }
 
-// Variable = "$" Name ":" Type Default? ConstDirectives
+// VariableDefinition = "$" Name ":" Type Default? ConstDirectives
 impl Print for VariableDefinition {
     ghost tokens = { Rattle.gql_printing.specs.Executables.variable_definition_tokens };
 
@@ -51,7 +51,7 @@ pub fn print_default(default: &Option<Literal>, printer: &mut Printer) -> Result
     }
 }
 
-// Operation = Set | OperationType Name? Variables? Directives Set
+// Operation = Set | OperationType Name? VariableDefinitions? Directives Set
 pub fn print_operation(
     operation: &Operation,
     short: bool,

@@ -29,7 +29,7 @@ fn print_description(description: &Option<Text>, printer: &mut Printer) -> Resul
     }
 }
 
-// TypeSystem = Desc? (Schema | Scalar | Object | Interface | Union | Enum | Input | Directive)
+// TypeSystem = Desc? (Schema | Scalar | Object | Interface | Union | Enum | Input | DirectiveDefinition)
 pub fn print_type_system(definition: &TypeSystem, printer: &mut Printer) -> Result<(), Memory>
     ensures { OnOk result (printer.new ≡ written printer.old (spec.type_system_tokens definition.now)) }
 {
@@ -184,7 +184,7 @@ fn print_members(members: &Items<Name>, printer: &mut Printer) -> Result<(), Mem
     print_listed(members, Kind::Pipe, printer)
 }
 
-// Enum = "enum" Name ConstDirectives ("{" EnumValue+ "}")?
+// Enum = "enum" Name ConstDirectives ("{" EnumValueDefinition+ "}")?
 fn print_enum(definition: &EnumDefinition, printer: &mut Printer) -> Result<(), Memory>
     ensures { OnOk result (printer.new ≡ written printer.old (spec.enum_tokens definition.now)) }
 {
@@ -194,7 +194,7 @@ fn print_enum(definition: &EnumDefinition, printer: &mut Printer) -> Result<(), 
     print_braced(&definition.values, printer)
 }
 
-// Desc? EnumName ConstDirectives
+// Desc? EnumValue ConstDirectives
 impl Print for EnumValueDefinition {
     ghost tokens = { Rattle.gql_printing.specs.TypeSystems.enum_value_tokens };
 
@@ -218,7 +218,7 @@ fn print_input_object(
     print_braced(&definition.fields, printer)
 }
 
-// Directive = "directive" "@" Name Inputs? "repeatable"? "on" "|"? Name ("|" Name)*
+// DirectiveDefinition = "directive" "@" Name Inputs? "repeatable"? "on" "|"? Name ("|" Name)*
 fn print_directive_definition(
     definition: &DirectiveDefinition,
     printer: &mut Printer,

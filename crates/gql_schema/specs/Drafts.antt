@@ -4,6 +4,7 @@ use Rattle.schema_model.specs.declared.schema.Schema.{Schema}
 use Rattle.gql_schema.specs.declared.draft.Draft.{Draft}
 use Rattle.gql_schema.specs.Meaning.{default_roots}
 
+-- the draft's types and directives, with the roots that `schema` names, or the default ones where there is no `schema`
 abbrev pub finished : Draft → Schema
 finished draft = record {
   types = draft.types;

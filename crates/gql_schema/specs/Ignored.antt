@@ -7,6 +7,7 @@ use Rattle.gql_model.specs.declared.type_system.TypeSystemForm.TheVariants as fo
 abbrev pub scalars : List (List ℕ)
 scalars = codes "Int" ∷ codes "Float" ∷ codes "String" ∷ codes "Boolean" ∷ codes "ID" ∷ []
 
+-- the name is that of a built-in scalar
 abbrev pub is_scalar : List ℕ → Bool
 is_scalar name =
     bytes_eq name (codes "Int") || bytes_eq name (codes "Float") || bytes_eq name (codes "String")

@@ -19,6 +19,7 @@ use Rattle.gql_schema.specs.Meaning.{schema_of}
 use Rattle.gql_schema.specs.Repeated.{repeated_line}
 use Rattle.gql_schema.specs.Reserved.{reserved_line}
 
+-- the refusal with this code, where there is a line at which that is broken
 abbrev pub coded : ℕ → Option ℕ → Option Refusal
 coded code line = option_map (λ l. record { code = code; line = l }) line
 

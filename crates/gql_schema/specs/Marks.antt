@@ -11,6 +11,7 @@ use Rattle.gql_model.specs.declared.type_system.EnumValueDefinition.{EnumValueDe
 use Rattle.gql_model.specs.declared.type_system.TypeSystemForm.{TypeSystemForm}
 use Rattle.gql_model.specs.declared.type_system.TypeSystemForm.TheVariants as form
 
+-- a name of a document with its line
 abbrev pub mark_of : Name → Mark
 mark_of name = (name.text, name.place.row)
 

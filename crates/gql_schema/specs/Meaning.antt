@@ -34,26 +34,33 @@ use Rattle.gql_schema.specs.Ignored.{scalars}
 abbrev pub input_entry : InputDefinition → List ℕ × InputValue
 input_entry d = (d.name.text, record { line = d.name.place.row; input_type = d.input_type; default = d.default })
 
+-- arguments or input fields by name; of several with one name the first counts
 abbrev pub inputs_of : List InputDefinition → List (List ℕ × InputValue)
 inputs_of ds = tabled (map input_entry ds)
 
+-- a field of an object type or an interface under its name, with its line, its arguments and its type
 abbrev pub field_entry : FieldDefinition → List ℕ × SchemaField
 field_entry d = (d.name.text, record { line = d.name.place.row; arguments = inputs_of d.arguments; field_type = d.field_type })
 
+-- the fields of a type by name; of several with one name the first counts
 abbrev pub fields_of : List FieldDefinition → List (List ℕ × SchemaField)
 fields_of ds = tabled (map field_entry ds)
 
+-- a value of an enum, with its line
 abbrev pub value_entry : EnumValueDefinition → Mark
 value_entry d = mark_of d.name
 
+-- the interfaces of a type, or the members of a union, with their lines; of several with one name the first counts
 abbrev pub names_of : List Name → List Mark
 names_of names = tabled (map mark_of names)
 
+-- what an object type or an interface has: the interfaces that it implements, and its fields
 abbrev pub parts_of : List Name → List FieldDefinition → Interfaced
 parts_of interfaces fields = record { interfaces = names_of interfaces; fields = fields_of fields }
 
 -- ---- types and directives
 
+-- a type of this form under its name, with the line of that name
 abbrev pub typed : Name → TypeForm → NamedType
 typed name body = (name.text, record { line = name.place.row; form = body })
 
@@ -67,6 +74,7 @@ type_entries (definition.Enum d) = typed d.name (form.Enum (tabled (map value_en
 type_entries (definition.Input d) = typed d.name (form.Input (inputs_of d.fields)) ∷ []
 type_entries _ = []
 
+-- a directive: the line of its name, its arguments, whether it is repeatable, and its locations
 abbrev pub directive_of : DirectiveDefinition → SchemaDirective
 directive_of d = record { line = d.name.place.row; arguments = inputs_of d.arguments; repeatable = d.repeatable; locations = d.locations }
 
@@ -79,14 +87,17 @@ directive_entries _ = []
 abbrev pub scalar_entry : List ℕ → NamedType
 scalar_entry name = (name, record { line = 0; form = form.Scalar })
 
+-- the types by name, the built-in scalars before those that are defined; of several with one name the first counts
 abbrev pub types_of : List TypeSystemForm → List NamedType
 types_of ds = tabled (map scalar_entry scalars ++ flat_map type_entries ds)
 
 -- ---- roots
 
+-- no kind of operations has a root type
 abbrev pub no_roots : RootNames
 no_roots = record { query = None; mutation = None; subscription = None }
 
+-- the root type of this name, with the line of the name
 abbrev pub root_at : Name → RootName
 root_at name = record { line = name.place.row; text = name.text }
 
@@ -96,6 +107,7 @@ with_root roots operation.Query name = record roots { query = option_or roots.qu
 with_root roots operation.Mutation name = record roots { mutation = option_or roots.mutation (Some name) }
 with_root roots operation.Subscription name = record roots { subscription = option_or roots.subscription (Some name) }
 
+-- the roots of one `schema`; of several for one kind of operations the first counts
 abbrev pub roots_of : List RootOperation → RootNames
 roots_of roots = fold (λ names r. with_root names r.kind (root_at r.named)) no_roots roots
 
@@ -116,11 +128,13 @@ default_roots types = record {
   subscription = default_root types (codes "Subscription");
 }
 
+-- the roots that the first `schema` names, where there is one
 abbrev pub stated_roots : List TypeSystemForm → Option RootNames
 stated_roots ds = fold (λ roots d. option_or roots (schema_roots d)) None ds
 
 -- ---- the schema
 
+-- the types, the directives by name, and the roots that `schema` names, or the default ones where there is no `schema`
 abbrev pub schema_of : List TypeSystemForm → Schema
 schema_of ds = record {
   types = types_of ds;

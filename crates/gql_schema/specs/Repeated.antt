@@ -19,6 +19,7 @@ use Rattle.gql_schema.specs.Marks.{Mark, mark_of, type_mark, directive_mark}
 use Rattle.gql_schema.specs.Ignored.{scalars}
 use Rattle.schema_defaults.specs.Repetitions.{repeated}
 
+-- the word for a kind of operations in `schema`
 abbrev pub kind_word : OperationKind → List ℕ
 kind_word Query = codes "query"
 kind_word Mutation = codes "mutation"
@@ -28,12 +29,15 @@ kind_word Subscription = codes "subscription"
 abbrev pub root_mark : RootOperation → Mark
 root_mark root = (kind_word root.kind, root.place.row)
 
+-- the name of an argument or an input field, with its line
 abbrev pub input_mark : InputDefinition → Mark
 input_mark input = mark_of input.name
 
+-- the name of a field, with its line
 abbrev pub field_mark : FieldDefinition → Mark
 field_mark field = mark_of field.name
 
+-- the name of an enum value, with its line
 abbrev pub value_mark : EnumValueDefinition → Mark
 value_mark value = mark_of value.name
 

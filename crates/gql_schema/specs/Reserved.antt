@@ -10,6 +10,7 @@ use Rattle.gql_model.specs.declared.type_system.TypeSystemForm.{TypeSystemForm}
 use Rattle.gql_model.specs.declared.type_system.TypeSystemForm.TheVariants as form
 use Rattle.schema_rules.specs.Lines.{earlier, least_by}
 
+-- the name begins with two underscores, which are for introspection alone
 abbrev pub is_reserved : List ℕ → Bool
 is_reserved name = starts_with nat_eq name (codes "__")
 
@@ -17,9 +18,11 @@ is_reserved name = starts_with nat_eq name (codes "__")
 abbrev pub reserved : Name → Option ℕ
 reserved name = cond (is_reserved name.text) (Some name.place.row) None
 
+-- the line of an argument or an input field whose name is reserved
 abbrev pub reserved_input : InputDefinition → Option ℕ
 reserved_input input = reserved input.name
 
+-- the line of an enum value whose name is reserved
 abbrev pub reserved_value : EnumValueDefinition → Option ℕ
 reserved_value value = reserved value.name
 

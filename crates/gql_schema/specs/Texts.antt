@@ -27,6 +27,7 @@ abbrev pub schema_of_forms : Result (List TypeSystemForm) Flaw → Result Schema
 schema_of_forms (Ok forms) = unless_refused (considered forms) (refusal_of (considered forms))
 schema_of_forms (Err flaw) = Err (text_refusal flaw)
 
+-- the schema of a text, or its refusal: S1 or S2 where no definitions can be read, and else the least of S3 to S9
 abbrev pub schema_in : List ℕ → Result Schema Refusal
 schema_in text = schema_of_forms (forms_of text)
 

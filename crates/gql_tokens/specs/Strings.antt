@@ -22,10 +22,11 @@ code_unit text =
     then four_digits (hex_digit (slice_index text 2)) (hex_digit (slice_index text 3)) (hex_digit (slice_index text 4)) (hex_digit (slice_index text 5))
     else None
 
--- the first and the second code unit of a surrogate pair (Unicode, 3.8)
+-- the first code unit of a surrogate pair (Unicode, 3.8)
 abbrev pub is_leading_surrogate : ℕ → Bool
 is_leading_surrogate u = nat_le 0xD800 u && nat_lt u 0xDC00
 
+-- the second code unit of a surrogate pair (Unicode, 3.8)
 abbrev pub is_trailing_surrogate : ℕ → Bool
 is_trailing_surrogate u = nat_le 0xDC00 u && nat_lt u 0xE000
 

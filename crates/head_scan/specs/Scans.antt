@@ -12,6 +12,7 @@ use Rattle.head_scan.specs.declared.request.Fields.TheVariants.{Awaited, Within,
 use Rattle.head_scan.specs.declared.request.RequestScan.{RequestScan}
 use Rattle.head_scan.specs.declared.response.ResponseScan.{ResponseScan}
 
+-- there is a byte at least
 abbrev pub is_some_byte : List ℕ → Bool
 is_some_byte [] = false
 is_some_byte (b ∷ bytes) = true

@@ -66,10 +66,11 @@ by_coding unstated coding.Absent size = by_length unstated size
 by_coding unstated coding.Chunked size = framing.Chunked
 by_coding unstated coding.Other size = framing.Malformed
 
--- the coding and the length that the fields of a head state
+-- the coding that the fields of a head state
 abbrev pub coding_of : List (List ℕ × List ℕ) → Coding
 coding_of fields = fold coding_after coding.Absent fields
 
+-- the length that the fields of a head state
 abbrev pub length_of : List (List ℕ × List ℕ) → Length
 length_of fields = fold length_after absent fields
 

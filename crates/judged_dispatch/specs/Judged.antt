@@ -1,4 +1,5 @@
--- The judgement of a dispatch: the operation that it asks for, or the first reason to refuse it (GraphQL October 2021, 5 and 6.1; the order of the reasons is this project's own).
+-- The judgement of a dispatch: the operation that it asks for, or the first reason to refuse it
+-- (GraphQL October 2021, 5 and 6.1; the order of the reasons is this project's own).
 use Rattle.std.specs.Prelude.{ℕ, Bool, true, false, nat_lt, if◌then◌else◌, List, [], Option, Some, None, Result, Ok, Err}
 use Rattle.gql_tokens.specs.declared.token.Place.{Place}
 use Rattle.gql_tokens.specs.Nesting.{nesting_of}
@@ -28,6 +29,7 @@ pub record Accepted : Type 0 where
 
 -- ---- E9: the values of the variables, in order, or the first variable that is refused
 
+-- the operation at this place is accepted with the values of its variables, or E9 names the first variable that is refused
 abbrev pub valued : Document → ℕ → Result Pairs (List ℕ) → Result Accepted Refusal
 valued document place (Ok variables) = Ok (record { document = document; place = place; variables = variables })
 valued document place (Err variable) = Err (E9 variable)
@@ -45,6 +47,7 @@ is_taken Queries Mutation = false
 is_taken QueriesAndMutations Mutation = true
 is_taken kinds Subscription = false
 
+-- the chosen operation: E7 where there is none, E15 where its kind isn't taken, and else it is judged by its variables
 abbrev pub operation_judged : Kinds → Service → Pairs → Document → ℕ → Option Operation → Result Accepted Refusal
 operation_judged kinds service values document place None = Err E7
 operation_judged kinds service values document place (Some operation) =
@@ -64,12 +67,14 @@ abbrev pub choice_judged : Kinds → Service → Pairs → Document → Option �
 choice_judged kinds service values document None = Err E7
 choice_judged kinds service values document (Some place) = operation_judged kinds service values document place (operation_at document place)
 
+-- a document is refused by the first ground that validation finds; without one, the operation that the name chooses is judged
 abbrev pub validation_judged : Kinds → Service → Option (List ℕ) → Pairs → Document → Option Ground → Result Accepted Refusal
 validation_judged kinds service name values document (Some reason) = Err (told reason)
 validation_judged kinds service name values document None = choice_judged kinds service values document (chosen_place document name)
 
 -- ---- E14 and E6: the text
 
+-- what a text was read as: E6 with the place of the fault where it is no document; a document is validated
 abbrev pub document_judged : Kinds → Service → Option (List ℕ) → Pairs → Result Document Place → Result Accepted Refusal
 document_judged kinds service name values (Err place) = Err (E6 place.row place.column)
 document_judged kinds service name values (Ok document) = validation_judged kinds service name values document (refusal_of service.schema document name)

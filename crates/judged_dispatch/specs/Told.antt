@@ -7,6 +7,7 @@ use Rattle.frame_reading.specs.declared.error.FrameError.TheVariants as error
 use Rattle.judged_dispatch.specs.declared.judged.Judged.{Judged}
 use Rattle.judged_dispatch.specs.Judged.{Accepted, told}
 
+-- the document and the place of a checked operation, with the values of its variables
 abbrev pub accepted_by : Judged → Accepted
 accepted_by judged = record { document = judged.checked.document; place = judged.checked.place; variables = judged.variables }
 

@@ -12,14 +12,15 @@ ShowsFlattened = (store : Store) (h : History) → Stands store h → (entity fi
 abbrev pub CountsTickets : Type 0
 CountsTickets = (store : Store) (h : History) → Stands store h → length h ≡ tickets_of store
 
--- the tickets that are open are those that aren't finished in the history
+-- a ticket that isn't finished in the history is open in the store
 abbrev pub OpensUnfinished : Type 0
 OpensUnfinished = (store : Store) (h : History) (ticket : ℕ) → Stands store h → IsUnfinished h ticket → IsOpen store ticket
 
+-- and a ticket that is open in the store isn't finished in the history
 abbrev pub UnfinishedWhereOpen : Type 0
 UnfinishedWhereOpen = (store : Store) (h : History) (ticket : ℕ) → Stands store h → IsOpen store ticket → IsUnfinished h ticket
 
--- and one of them can be finished where its content there isn't Optimistic
+-- a ticket that isn't finished in the history can be finished where its content there isn't Optimistic
 abbrev pub FinishesSettled : Type 0
 FinishesSettled = (store : Store) (h : History) (ticket : ℕ) → Stands store h → IsUnfinished h ticket → is_optimistic (content_of h ticket).kind ≡ false → CanFinish store ticket
 

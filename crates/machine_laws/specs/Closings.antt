@@ -33,6 +33,7 @@ pub record AreApart {O : Type 0} (history : History) (fetches : List (OpenFetch 
   pub apart : AllByRecursion (λ (fetch : OpenFetch O). is_pending fetch.ticket mutations ≡ is_none fetch.key) fetches
   pub finished : (place : ℕ) (content : Content) → IsClosedIn place content history fetches mutations → content.finished ≡ true
 
+-- a state's history, open fetches, mutations and next number of a fetch are so
 abbrev pub IsApart : {O : Type 0} → GatewayState O → Type 0
 IsApart state = AreApart state.history state.fetches state.mutations state.next_fetch
 
@@ -66,7 +67,8 @@ MutationsAlone O = (state : GatewayState O) (fetch : OpenFetch O) → IsApart st
 abbrev pub is_open : {O : Type 0} → ℕ → GatewayState O → Bool
 is_open number state = list_any (λ fetch. fetch.number == number) state.fetches
 
--- whichever command ends the open fetch of a query, an answer to it or the teardown of an operation or a client, its ticket is finished and closed then
+-- whichever command ends the open fetch of a query, an answer to it or the teardown of an operation or a client, its ticket is
+-- finished and closed then
 abbrev pub QueriesClose : Type 0 → Type 0
 QueriesClose O = (meaning : Meaning O) (job : Job) (state : GatewayState O) (fetch : OpenFetch O)
     → IsApart state → IsOpen fetch state → is_some fetch.key ≡ true → is_open fetch.number (command_step meaning job state).state ≡ false

@@ -28,6 +28,7 @@ WeighsMore weight own (Command-F.Gone peer) = 0 < own
 abbrev pub IsWeight : (Command → ℕ) → Type 0
 IsWeight weight = (command : Command) → WeighsMore weight (weight command) (out-Command command)
 
+-- the sum of some weights
 abbrev pub weights_total : List ℕ → ℕ
 weights_total [] = 0
 weights_total (weight ∷ weights) = weight + weights_total weights
@@ -42,9 +43,11 @@ weigh_command (Command-F.Layers peer) = 1
 weigh_command (Command-F.Flat peer) = 1
 weigh_command (Command-F.Gone peer) = 1
 
+-- how much the commands weigh together that were given to follow a dispatch
 abbrev pub weigh_dispatch : Dispatch-F ℕ ℕ → ℕ
 weigh_dispatch dispatch = weights_total dispatch.then
 
+-- the weight of a command: how many commands it holds, itself and what follows it, at every depth
 abbrev pub weight_of : Command → ℕ
 weight_of = fold-Command ℕ ℕ weigh_command weigh_dispatch
 

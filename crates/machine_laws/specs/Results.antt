@@ -49,6 +49,7 @@ held_after meaning operation mutates body (Err path) = given_up
 held_after meaning operation false body (Ok writes) = held_for_good writes
 held_after meaning operation true body (Ok writes) = held_for_good (writes ++ meaning.updates operation body)
 
+-- what a ticket holds: so far nothing or a mutation's guess, after an answer its writes, and without an answer nothing for good
 abbrev pub held_by : {O : Type 0} → Meaning O → O → Bool → Came → Content
 held_by meaning operation false nothing = no_content
 held_by meaning operation true nothing = held_before (meaning.guess operation)
@@ -70,6 +71,7 @@ pub record HasResultsIn {O : Type 0} (meaning : Meaning O) (results : List (Sent
   pub sent : AllByRecursion (λ (fetch : OpenFetch O). IsAwaited results fetch.ticket fetch.operation (is_none fetch.key)) fetches
   pub waiting : AllByRecursion (λ (pending : PendingMutation O). IsAwaited results pending.ticket pending.operation true) mutations
 
+-- these results are those of a state: its history is what they come to, and what is open in it is awaited
 abbrev pub HasResults : {O : Type 0} → Meaning O → List (SentOperation O) → GatewayState O → Type 0
 HasResults meaning results state = HasResultsIn meaning results state.history state.fetches state.mutations
 
@@ -145,7 +147,8 @@ RunsHaveResults O = (meaning : Meaning O) (rows : MutationQueue) (offers : List 
     → (results : List (SentOperation O)) × HasResults meaning results step.state
     × GoOnByRuns meaning commands (all_offered meaning offers (first_state rows)).state (map offered_row offers) results
 
--- two runs that drew the same tickets for the same operations and got the same results have one map, whatever the order in which these came and whatever else was done in between
+-- two runs that drew the same tickets for the same operations and got the same results have one map, whatever the order in which
+-- these came and whatever else was done in between
 abbrev pub OneMapOfResults : Type 0 → Type 0
 OneMapOfResults O = (meaning : Meaning O) (results others : List (SentOperation O)) (state other : GatewayState O) → HasResults meaning results state → HasResults meaning others other
     → map asked results ≡ map asked others → ((place : ℕ) → came_at results place ≡ came_at others place)

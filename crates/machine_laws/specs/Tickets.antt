@@ -35,6 +35,7 @@ pub record AreInOrder {O : Type 0} (history : History) (fetches : List (OpenFetc
   pub known : AllByRecursion (λ (pending : PendingMutation O). pending.ticket ≤ length history) mutations
   pub in_turn : Ascend (λ (pending : PendingMutation O). pending.ticket) 0 mutations
 
+-- a state's history, open fetches, mutations and next number of a fetch are so
 abbrev pub IsInOrder : {O : Type 0} → GatewayState O → Type 0
 IsInOrder state = AreInOrder state.history state.fetches state.mutations state.next_fetch
 

@@ -15,6 +15,7 @@ dispatches peer id _ = false
 abbrev pub is_waiting_for : ℕ → ℕ → Job → Bool
 is_waiting_for peer id job = dispatches peer id (out-Command job.command)
 
+-- a command that waits and took nothing out of the queue when it joined
 abbrev pub plain_job : Command → Job
 plain_job command = record { command = command; took_out = false }
 
@@ -24,6 +25,7 @@ teardown_joined jobs command peer id =
     filter (λ job. not (is_waiting_for peer id job)) jobs
     ++ record { command = command; took_out = list_any (is_waiting_for peer id) jobs } ∷ []
 
+-- a teardown goes behind what it leaves of the queue, any other command goes behind all of it
 abbrev pub joined_as : List Job → Command → Command-F Command Dispatch → List Job
 joined_as jobs command (Command-F.Teardown peer id line) = teardown_joined jobs command peer id
 joined_as jobs command _ = jobs ++ plain_job command ∷ []

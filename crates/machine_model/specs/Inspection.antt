@@ -24,6 +24,7 @@ squashed (content ∷ history) = if content.finished then suc (squashed history)
 abbrev pub kept : History → List ℕ
 kept history = range_with_len (suc (squashed history)) (length history - squashed history)
 
+-- the client is told how many tickets are squashed and which are kept; nothing changes
 abbrev pub layers : {O : Type 0} → ℕ → GatewayState O → Step O
 layers peer state = given (out.Layers peer (squashed state.history) (kept state.history)) state
 
@@ -42,6 +43,7 @@ set_in history = flat_map (λ content. flat_map set_by content.writes) history
 abbrev pub place_order : List ℕ × List ℕ → List ℕ × List ℕ → Ordering
 place_order place other = ordering_then (text_cmp place.0 other.0) (text_cmp place.1 other.1)
 
+-- the places so far with one more, which stands once and in order
 abbrev pub placed : List ((List ℕ × List ℕ) × Unit {0}) → List ℕ × List ℕ → List ((List ℕ × List ℕ) × Unit {0})
 placed entries place = insert_entry place_order entries place tt
 
@@ -57,5 +59,6 @@ row_at history place = option_map (λ cell. (place.0, place.1, cell)) (flattened
 abbrev pub cells_of : History → List Row
 cells_of history = filter_map (row_at history) (in_order (set_in history))
 
+-- the client is told all cells of the flattened map; nothing changes
 abbrev pub flat : {O : Type 0} → ℕ → GatewayState O → Step O
 flat peer state = given (out.Flat peer (cells_of state.history)) state

@@ -11,6 +11,7 @@ use Rattle.machine_model.specs.Steps.{Step, unmoved, given, and_then}
 use Rattle.machine_model.specs.Telling.{listening_as}
 use Rattle.machine_model.specs.Reevaluation.{reading_now}
 
+-- the policy under which a dispatch always sends and never tells what the cache has (urql, request policies)
 abbrev pub is_network_only : Policy → Bool
 is_network_only NetworkOnly = true
 is_network_only _ = false
@@ -54,6 +55,7 @@ abbrev pub query_sent : {O : Type 0} → Meaning O → LiveQuery O → GatewaySt
 query_sent meaning listening state =
     sent meaning (next_ticket state) (Some listening.key) listening.operation (none_due listening.key (with_ticket state))
 
+-- a live query is sent where it is due and may be; nothing is sent for a mutation, whose dispatch has sent it
 abbrev pub issued_for : {O : Type 0} → Meaning O → Listening O → GatewayState O → Step O
 issued_for meaning (query listening) state = if may_be_sent meaning state listening then query_sent meaning listening state else unmoved state
 issued_for meaning (mutation ticket) state = unmoved state

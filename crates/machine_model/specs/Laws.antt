@@ -26,7 +26,8 @@ use Rattle.machine_model.specs.Runs.{IsRun, command_taken, commands_taken}
 abbrev pub all_writes : History → List Write
 all_writes history = flat_map (λ content. content.writes) history
 
--- the flattened map is one plain map: each cell is what the last write that covers it says, over all present results in order of first sending, and without such a write there is none
+-- the flattened map is one plain map: each cell is what the last write that covers it says, over all present results in
+-- order of first sending, and without such a write there is none
 abbrev pub LastWriteCounts : Type 0
 LastWriteCounts = (history : History) (entity field : List ℕ)
     → flattened history entity field ≡ unwrap_or (effect (all_writes history) entity field) None
@@ -66,10 +67,11 @@ ArrivalsInAnyOrderFlattened = (history : History) (arrivals others : List Arriva
     → ((ticket : ℕ) → result_for ticket arrivals ≡ result_for ticket others)
     → (entity field : List ℕ) → flattened (all_arrived history arrivals) entity field ≡ flattened (all_arrived history others) entity field
 
--- the fetch, or the mutation, is for the ticket at this place of the history, counted from 0
+-- the fetch is for the ticket at this place of the history, counted from 0
 abbrev pub is_fetch_at : {O : Type 0} → ℕ → OpenFetch O → Bool
 is_fetch_at place fetch = fetch.ticket - 1 == place
 
+-- the mutation is of the ticket at this place of the history, counted from 0
 abbrev pub is_mutation_at : {O : Type 0} → ℕ → PendingMutation O → Bool
 is_mutation_at place pending = pending.ticket - 1 == place
 
@@ -80,6 +82,7 @@ pub record IsClosedIn {O : Type 0} (place : ℕ) (content : Content) (history : 
   pub unsent : list_any (is_fetch_at place) fetches ≡ false
   pub answered : list_any (is_mutation_at place) mutations ≡ false
 
+-- the same of a state, with its own history, fetches and mutations
 abbrev pub IsClosed : {O : Type 0} → ℕ → Content → GatewayState O → Type 0
 IsClosed place content state = IsClosedIn place content state.history state.fetches state.mutations
 
@@ -130,6 +133,7 @@ abbrev pub SilentAtTeardown : Type 0 → Type 0
 SilentAtTeardown O = (meaning : Meaning O) (state : GatewayState O) (peer id line : ℕ) (took_out : Bool)
     → IsSilent peer id (concluded meaning (teardown peer id line took_out state))
 
+-- the command that is taken next, where one waits
 abbrev pub first_of : List Job → List Job
 first_of [] = []
 first_of (job ∷ jobs) = job ∷ []

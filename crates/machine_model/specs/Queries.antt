@@ -74,6 +74,7 @@ query_read meaning sender operation key policy state =
     let listening = read_at_once operation key policy (meaning.read operation (flattened state.history)) in
     turned_newest (read_turn meaning state (live_as sender (query listening)) listening) state
 
+-- a query joins the live ones: a network-only one unread, to await its answer; any other is read at once
 abbrev pub query_added : {O : Type 0} → Meaning O → Sender → O → ℕ → Policy → GatewayState O → Step O
 query_added meaning sender operation key policy state =
     if is_network_only policy

@@ -32,14 +32,17 @@ must_be_read before after ticket answer listening =
     is_answer_for listening.key answer
     || (not listening.awaits && option_map_or (is_woken before after listening) ticket false)
 
+-- how many cells a query looks at when it is read now
 abbrev pub cells_now : {O : Type 0} → Meaning O → GatewayState O → LiveQuery O → ℕ
 cells_now meaning state listening = length (reading_now meaning state listening).visited
 
+-- how many cells a re-evaluation has to look at for a live operation; none for a mutation, or a query that needn't be read
 abbrev pub reread_cells : {O : Type 0} → Meaning O → GatewayState O → GatewayState O → Option ℕ → Option Answer → Listening O → ℕ
 reread_cells meaning before after ticket answer (query listening) =
     if must_be_read before after ticket answer listening then cells_now meaning after listening else 0
 reread_cells meaning before after ticket answer (mutation number) = 0
 
+-- what may be looked at after a change: what a re-evaluation has to; the issue of due fetches looks at no cells
 abbrev pub sequel_budget : {O : Type 0} → Meaning O → GatewayState O → GatewayState O → Sequel → ℕ
 sequel_budget meaning before after stops = 0
 sequel_budget meaning before after issues = 0
@@ -69,17 +72,21 @@ abbrev pub response_budget : {O : Type 0} → GatewayState O → Option ℕ → 
 response_budget after (Some key) (reevaluates ticket None) = fault_budget key after
 response_budget after _ _ = 0
 
+-- what follows this change of the state `before` may look at
 abbrev pub change_budget : {O : Type 0} → Meaning O → GatewayState O → Change O → ℕ
 change_budget meaning before change = sequel_budget meaning before change.state change.sequel
 
+-- what the teardowns of these operations may look at, one after another and each in the state that the last one left
 abbrev pub gone_budget : {O : Type 0} → Meaning O → List (LiveOperation O) → GatewayState O → ℕ
 gone_budget meaning [] state = 0
 gone_budget meaning (live ∷ more) state =
     change_budget meaning state (torn_down live.peer live.id live.listens state) + gone_budget meaning more (concluded meaning (torn_down live.peer live.id live.listens state)).state
 
+-- what a dispatch may look at: the cells of the new query, and those of what follows
 abbrev pub dispatched_budget : {O : Type 0} → Meaning O → GatewayState O → Change O → ℕ
 dispatched_budget meaning before change = dispatch_budget before change.state + change_budget meaning before change
 
+-- what a response to a fetch of this key may look at: the cells that it reads by itself, and those of what follows
 abbrev pub answered_budget : {O : Type 0} → Meaning O → GatewayState O → Option ℕ → Change O → ℕ
 answered_budget meaning before key change = response_budget change.state key change.sequel + change_budget meaning before change
 
@@ -94,6 +101,7 @@ command_budget meaning took_out state (Command-F.Layers peer) = 0
 command_budget meaning took_out state (Command-F.Flat peer) = length (cells_of state.history)
 command_budget meaning took_out state (Command-F.Gone peer) = gone_budget meaning (filter (λ live. live.peer == peer) state.live) state
 
+-- what the first of these commands may look at once it has left the queue; nothing, where none waits
 abbrev pub job_budget : {O : Type 0} → Meaning O → GatewayState O → List Job → ℕ
 job_budget meaning state [] = 0
 job_budget meaning state (job ∷ jobs) = command_budget meaning job.took_out (record state { jobs = jobs }) (out-Command job.command)

@@ -1,4 +1,5 @@
--- The re-evaluation of live queries after a change: each is read again over the flattened map, and told where a client sees a difference (after urql's Graphcache; when a query becomes due is this project's own).
+-- The re-evaluation of live queries after a change: each is read again over the flattened map, and told where a client
+-- sees a difference (after urql's Graphcache; when a query becomes due is this project's own).
 use Rattle.std.specs.Prelude.{ℕ, ◌==◌, ◌&&◌, ◌||◌, Bool, true, false, not, if◌then◌else◌, Option, Some, None}
 use Rattle.std.specs.Option.{option_map_or}
 use Rattle.cache_model.specs.History.{flattened, is_shadowed}
@@ -60,6 +61,7 @@ abbrev pub unanswered_turn : {O : Type 0} → Meaning O → GatewayState O → L
 unanswered_turn meaning state live listening =
     if listening.awaits then untold live else other_turn meaning state live listening (reading_now meaning state listening)
 
+-- a query of the answered key has its turn with the answer, and any other query has its turn without
 abbrev pub query_turn : {O : Type 0} → Meaning O → GatewayState O → Option Answer → LiveOperation O → LiveQuery O → Turn O
 query_turn meaning state None live listening = unanswered_turn meaning state live listening
 query_turn meaning state (Some answer) live listening =

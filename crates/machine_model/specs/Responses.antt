@@ -46,6 +46,7 @@ query_written meaning fetch key errors state (Ok writes) =
     (reevaluates (Some fetch.ticket) (Some (record { key = key; ticket = fetch.ticket; errors = errors })))
 query_written meaning fetch key errors state (Err path) = query_failed meaning fetch key (F4 path) state
 
+-- what came for a query: an answer, to be written, or a fault, which all that listen to its key are told
 abbrev pub query_answered : {O : Type 0} → Meaning O → OpenFetch O → ℕ → GatewayState O → Outcome → Change O
 query_answered meaning fetch key state (outcome.Body answer errors) =
     query_written meaning fetch key errors state (meaning.written fetch.operation answer errors)
@@ -108,6 +109,7 @@ with_row ticket row state = record state { mutations = map (in_row ticket row) s
 abbrev pub queued_turn : {O : Type 0} → ℕ → LiveOperation O → Turn O
 queued_turn row live = record { live = live; outs = out.Queued live.peer live.id row ∷ []; follow_ups = [] }
 
+-- a mutation is put into the queue as the next row; its listener is told the row, and its guess stays
 abbrev pub mutation_queued : {O : Type 0} → PendingMutation O → Identity → GatewayState O → Change O
 mutation_queued pending identity state =
     let row = state.rows.greatest + 1 in
@@ -136,6 +138,7 @@ abbrev pub mutation_ended : {O : Type 0} → Meaning O → PendingMutation O →
 mutation_ended meaning pending state F6 = mutation_unreached meaning pending pending.row state
 mutation_ended meaning pending state fault = mutation_failed meaning pending (Outside fault) state
 
+-- what came for a mutation: an answer, to be written, or a fault, which ends it or leaves it to the queue
 abbrev pub mutation_answered : {O : Type 0} → Meaning O → PendingMutation O → GatewayState O → Outcome → Change O
 mutation_answered meaning pending state (outcome.Body answer errors) =
     mutation_written meaning pending answer errors state (meaning.written pending.operation answer errors)
@@ -147,11 +150,13 @@ mutation_answered meaning pending state (outcome.Bad fault) = mutation_ended mea
 abbrev pub pending_of : {O : Type 0} → ℕ → GatewayState O → Option (PendingMutation O)
 pending_of ticket state = find (λ pending. pending.ticket == ticket) state.mutations
 
+-- what came for a fetch is for the queries of its key; without a key it is for the mutation of its ticket
 abbrev pub fetch_answered : {O : Type 0} → Meaning O → OpenFetch O → Outcome → GatewayState O → Option ℕ → Change O
 fetch_answered meaning fetch outcome state (Some key) = query_answered meaning fetch key state outcome
 fetch_answered meaning fetch outcome state None =
     option_map_or (λ pending. mutation_answered meaning pending state outcome) (pending_of fetch.ticket state) (followed_by (unmoved state) stops)
 
+-- where no fetch of that number is open the response is refused (E10); else the fetch is closed, and its answer taken
 abbrev pub answered_where_open : {O : Type 0} → Meaning O → ℕ → ℕ → Outcome → GatewayState O → Option (OpenFetch O) → Change O
 answered_where_open meaning peer line outcome state None = followed_by (refused peer line refusal.E10 state) stops
 answered_where_open meaning peer line outcome state (Some fetch) = fetch_answered meaning fetch outcome (closed fetch.number state) fetch.key

@@ -22,6 +22,7 @@ abbrev pub sent_again : {O : Type 0} → Meaning O → GatewayState O → Pendin
 sent_again meaning state pending =
     if is_sent state pending.ticket then unmoved state else sent meaning pending.ticket None pending.operation state
 
+-- the mutations of these rows in order, each of which is sent again unless its fetch is open
 abbrev pub rows_sent_again : {O : Type 0} → Meaning O → List Row → GatewayState O → Step O
 rows_sent_again meaning [] state = unmoved state
 rows_sent_again meaning (row ∷ rows) state =
@@ -59,10 +60,12 @@ rule_of _ = 0
 abbrev pub Offered : Type 0 → Type 0
 Offered O = ℕ × O
 
+-- a row's mutation goes before those of the rows after it, unless one of these isn't taken
 abbrev pub offered_before : {O : Type 0} → ℕ → O → Result (List (Offered O)) Stop → Result (List (Offered O)) Stop
 offered_before seq operation (Ok more) = Ok ((seq, operation) ∷ more)
 offered_before seq operation (Err stop) = Err stop
 
+-- a row that isn't taken is the bad one, with the code and rule of its refusal, whatever comes after it; another goes before the rest
 abbrev pub offered_or_bad : {O : Type 0} → ℕ → Result O Refusal → Result (List (Offered O)) Stop → Result (List (Offered O)) Stop
 offered_or_bad seq (Err refusal) more = Err (BadRow seq (code_of refusal) (rule_of refusal))
 offered_or_bad seq (Ok operation) more = offered_before seq operation more
@@ -77,6 +80,7 @@ abbrev pub all_offered : {O : Type 0} → Meaning O → List (Offered O) → Gat
 all_offered meaning [] state = unmoved state
 all_offered meaning (offer ∷ more) state = and_then (begun_and_sent meaning offer.1 (Some offer.0) state) (all_offered meaning more)
 
+-- where all rows are taken, all are sent; where one isn't, the gateway stops and nothing is sent
 abbrev pub opened_with : {O : Type 0} → Meaning O → GatewayState O → Result (List (Offered O)) Stop → Result (Step O) Stop
 opened_with meaning state (Ok all) = Ok (all_offered meaning all state)
 opened_with meaning state (Err stop) = Err stop

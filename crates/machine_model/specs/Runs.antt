@@ -7,6 +7,7 @@ use Rattle.machine_model.specs.FollowUps.{plain_job}
 use Rattle.machine_model.specs.Steps.{Step, unmoved, and_then}
 use Rattle.machine_model.specs.Commands.{command_step}
 
+-- the first of these commands leaves the queue and makes its step; where none waits nothing is done
 abbrev pub first_taken : {O : Type 0} → Meaning O → GatewayState O → List Job → Step O
 first_taken meaning state [] = unmoved state
 first_taken meaning state (job ∷ jobs) = command_step meaning job (record state { jobs = jobs })

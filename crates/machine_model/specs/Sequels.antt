@@ -5,6 +5,7 @@ use Rattle.machine_model.specs.Steps.{Step, Change, Sequel, stops, issues, reeva
 use Rattle.machine_model.specs.Reevaluation.{reevaluated}
 use Rattle.machine_model.specs.Issue.{issued}
 
+-- nothing follows; or due fetches are issued; or live queries are re-evaluated, and then due fetches are issued
 abbrev pub followed : {O : Type 0} → Meaning O → Sequel → GatewayState O → Step O
 followed meaning stops state = unmoved state
 followed meaning issues state = issued meaning state

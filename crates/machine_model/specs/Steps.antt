@@ -9,6 +9,7 @@ use Rattle.machine_model.specs.declared.output.Out.TheVariants as out
 use Rattle.machine_model.specs.declared.output.Refusal.{Refusal}
 use Rattle.machine_model.specs.State.{GatewayState}
 
+-- what is given out, in order, and the state after
 pub record Step (O : Type 0) : Type 0 where
   pub outs : List Out
   pub state : GatewayState O

@@ -55,6 +55,7 @@ torn_where_live peer id line took_out state (Some live) = torn_down peer id live
 torn_where_live peer id line took_out state None =
     followed_by (if took_out then unmoved state else refused peer line refusal.E5 state) stops
 
+-- the client drops the operation that it gave this number (urql, teardown)
 abbrev pub teardown : {O : Type 0} → ℕ → ℕ → ℕ → Bool → GatewayState O → Change O
 teardown peer id line took_out state = torn_where_live peer id line took_out state (find (is_named peer id) state.live)
 

@@ -24,6 +24,7 @@ pub record Exchange : Type 0 where
   pub command : ℕ → Command
   pub outs : List Out
 
+-- this command gives out exactly these
 abbrev pub gives : (ℕ → Command) → List Out → Exchange
 gives command outs = record { command = command; outs = outs }
 
@@ -44,9 +45,11 @@ Dialog rules exchanges = Follow rules 1 exchanges no_rows (first_state no_rows)
 
 -- ---- commands of one client
 
+-- the number of the one client's connection
 abbrev pub client : ℕ
 client = 1
 
+-- a dispatch of a document under this id and policy, with the commands that follow its first reply or fault
 abbrev pub dispatch_then : ℕ → List ℕ → Policy → List Command → ℕ → Command
 dispatch_then id document policy commands line =
     roll-Command
@@ -63,12 +66,15 @@ dispatch_then id document policy commands line =
       then = commands;
     })))
 
+-- a dispatch under a policy, which nothing follows
 abbrev pub dispatch_under : Policy → ℕ → List ℕ → ℕ → Command
 dispatch_under policy id document = dispatch_then id document policy []
 
+-- a dispatch under cache-first, which nothing follows
 abbrev pub dispatch : ℕ → List ℕ → ℕ → Command
 dispatch = dispatch_under CacheFirst
 
+-- the client drops the operation of this id
 abbrev pub teardown : ℕ → ℕ → Command
 teardown id line = roll-Command (Command-F.Teardown client id line)
 
@@ -76,15 +82,19 @@ teardown id line = roll-Command (Command-F.Teardown client id line)
 abbrev pub answer : ℕ → Value → ℕ → Command
 answer fetch value line = roll-Command (Command-F.Respond client fetch line (Body value no_errors))
 
+-- a fault in place of the answer to a fetch
 abbrev pub failure : ℕ → Fault → ℕ → Command
 failure fetch fault line = roll-Command (Command-F.Respond client fetch line (Bad fault))
 
+-- the origin can be reached again
 abbrev pub online : ℕ → Command
 online line = roll-Command Command-F.Online
 
+-- the client asks which tickets are squashed and which are kept
 abbrev pub layers : ℕ → Command
 layers line = roll-Command (Command-F.Layers client)
 
+-- the client asks for all cells of the cache
 abbrev pub flat : ℕ → Command
 flat line = roll-Command (Command-F.Flat client)
 
@@ -98,11 +108,14 @@ told id value partial stale = out.Reply client id value no_errors partial stale
 abbrev pub reply : ℕ → Value → Out
 reply id value = told id value false false
 
+-- the operation is sent to the origin under this number
 abbrev pub fetch : ℕ → Operation → Out
 fetch number operation = out.Fetch number (kind_of operation) (sent_text operation) None (codes "{}")
 
+-- the command of this line is refused
 abbrev pub refused : ℕ → Refusal → Out
 refused line refusal = out.Refused client line refusal
 
+-- the answer to `layers`: how many tickets are squashed, and those that are kept
 abbrev pub kept : ℕ → List ℕ → Out
 kept base tickets = out.Layers client base tickets

@@ -18,6 +18,7 @@ pub data Rules : Type 0 where
   invalidating_users : Rules
   guessing_and_invalidating : Rules
 
+-- todo 1 with this value of `done`, its `__typename` and its `id`
 abbrev pub todo_done : Bool → List Write
 todo_done done =
     Set (codes "Todo:1") (codes "__typename") (cell.Leaf (text (codes "Todo")))
@@ -25,25 +26,31 @@ todo_done done =
     ∷ Set (codes "Todo:1") (codes "done") (cell.Leaf (truth done))
     ∷ []
 
+-- the list of todos is invalidated
 abbrev pub todos_dropped : List Write
 todos_dropped = DropName (codes "Query") (codes "todos") ∷ []
 
+-- what is written before an answer: `setDone` has a guess where one is declared, and no other operation has
 abbrev pub guess_by : Rules → Operation → Option (List Write)
 guess_by guessing (set_done done) = Some (todo_done done)
 guess_by guessing_and_invalidating (set_done done) = Some (todo_done done ++ todos_dropped)
 guess_by _ _ = None
 
+-- what rules add to an answer's own writes: `rename` drops all cells of user 7, or `setDone` the list of todos, where that is declared
 abbrev pub updates_by : Rules → Operation → List Write
 updates_by invalidating_users rename_bob = DropAll (codes "User:7") ∷ []
 updates_by guessing_and_invalidating (set_done done) = todos_dropped
 updates_by _ _ = []
 
+-- its document tells an operation from all others; it has no name and no variables
 abbrev pub identity_of : Operation → Identity
 identity_of operation = record { document = document_of operation; operation = []; variables = codes "{}" }
 
+-- what is sent for an operation: its document with `__typename` put in, without a name and with no variables
 abbrev pub request_of : Operation → Request
 request_of operation = record { query = sent_text operation; operation = None; variables = codes "{}" }
 
+-- what the machine takes of the operations, where these rules are declared; a listener asks for what the client gave
 abbrev pub meaning : Rules → Meaning Operation
 meaning rules = record {
   judged = λ dispatch. operation_in documents (out-Dispatch dispatch).query;

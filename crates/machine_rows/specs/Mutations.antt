@@ -20,12 +20,15 @@ use Rattle.machine_rows.specs.Queries.{me_answer, me_told, leaf, link}
 
 -- ---- a user is renamed, which invalidates it
 
+-- the document that renames user 7 to Bob
 abbrev pub rename : List ℕ
 rename = codes "mutation{rename(id:\"7\",name:\"Bob\"){id}}"
 
+-- its answer: user 7 by `__typename` and `id`, without the new name
 abbrev pub rename_answer : Value
 rename_answer = object ((codes "rename", object ((codes "__typename", text (codes "User")) ∷ (codes "id", text (codes "7")) ∷ [])) ∷ [])
 
+-- that answer as it is told
 abbrev pub rename_told : Value
 rename_told = object ((codes "rename", object ((codes "id", text (codes "7")) ∷ [])) ∷ [])
 
@@ -63,19 +66,22 @@ another_listener_stays_at_a_miss =
 
 -- ---- a todo is done, which is guessed
 
+-- the document that sets `done` of todo 1 to true
 abbrev pub set_to_true : List ℕ
 set_to_true = codes "mutation{setDone(id:\"1\",done:true){id done}}"
 
+-- the document that sets `done` of todo 1 to false
 abbrev pub set_to_false : List ℕ
 set_to_false = codes "mutation{setDone(id:\"1\",done:false){id done}}"
 
--- todo 1 under the root field of this name, as an answer has it and as it is told
+-- todo 1 under the root field of this name, as an answer has it
 abbrev pub done_answer : List ℕ → Bool → Value
 done_answer field done =
     object
     ((field, object ((codes "__typename", text (codes "Todo")) ∷ (codes "id", text (codes "1")) ∷ (codes "done", truth done) ∷ []))
     ∷ [])
 
+-- the same todo as it is told
 abbrev pub done_told : List ℕ → Bool → Value
 done_told field done = object ((field, object ((codes "id", text (codes "1")) ∷ (codes "done", truth done) ∷ [])) ∷ [])
 
@@ -101,11 +107,13 @@ a_guess_and_another_answer =
     (reply 2 (done_told (codes "setDone") false) ∷ reply 1 (done_told (codes "todo") false) ∷ [])
     ∷ []
 
+-- an answer whose list `todos` has todo 1 alone
 abbrev pub todos_answer : Value
 todos_answer =
     object
     ((codes "todos", list (object ((codes "__typename", text (codes "Todo")) ∷ (codes "id", text (codes "1")) ∷ []) ∷ [])) ∷ [])
 
+-- that answer as it is told
 abbrev pub todos_told : Value
 todos_told = object ((codes "todos", list (object ((codes "id", text (codes "1")) ∷ []) ∷ [])) ∷ [])
 
@@ -131,20 +139,22 @@ both_queued =
     ∷ gives (failure 2 F6) (out.Queued client 2 2 ∷ [])
     ∷ []
 
--- the queue with the rows of the first mutations
+-- the queue with one more row, of the mutation that sets `done` to this
 abbrev pub with_row : Bool → MutationQueue → MutationQueue
 with_row done queue = queued queue (document_of (set_done done)) [] (codes "{}")
 
+-- the queue with both rows: `done` set to true, and then to false
 abbrev pub two_rows : MutationQueue
 two_rows = with_row false (with_row true no_rows)
 
--- what is given out at the opening over a queue, before the first command
+-- the opening over a queue gives out exactly this; then these commands follow one another, and leave such a queue
 pub record Opens (rules : Rules) (queue : MutationQueue) (outs : List Out) (exchanges : List Exchange) (left : MutationQueue) : Type 0 where
   pub step : Step Operation
   pub opened : opening (meaning rules) (first_state queue) ≡ Ok step
   pub given : step.outs ≡ outs
   pub follows : Follow rules 1 exchanges left step.state
 
+-- both rows are sent at the opening, in order of the queue
 abbrev pub both_sent : List Out
 both_sent = fetch 1 (set_done true) ∷ fetch 2 (set_done false) ∷ []
 

@@ -22,6 +22,7 @@ pub data Operation : Type 0 where
   rename_bob : Operation
   set_done : Bool → Operation
 
+-- `rename` and `setDone` are mutations, and all other operations are queries
 abbrev pub kind_of : Operation → OperationKind
 kind_of rename_bob = Mutation
 kind_of (set_done done) = Mutation
@@ -89,15 +90,19 @@ pub record Leaf : Type 0 where
   pub name : List ℕ
   pub required : Bool
 
+-- `id: ID!` of a user or a todo
 abbrev pub id_leaf : Leaf
 id_leaf = record { name = codes "id"; required = true }
 
+-- `name: String!` of a user
 abbrev pub name_leaf : Leaf
 name_leaf = record { name = codes "name"; required = true }
 
+-- `nick: String` of a user, which may be null
 abbrev pub nick_leaf : Leaf
 nick_leaf = record { name = codes "nick"; required = false }
 
+-- `done: Boolean!` of a todo
 abbrev pub done_leaf : Leaf
 done_leaf = record { name = codes "done"; required = true }
 
@@ -112,9 +117,11 @@ pub record Asked : Type 0 where
 abbrev pub leaves_of : List ℕ → List ℕ → List Leaf → Asked
 leaves_of name field leaves = record { name = name; field = field; leaves = leaves; author = None }
 
+-- the key of the root field `todo(id: "1")` in the cache
 abbrev pub todo_key : List ℕ
 todo_key = codes "todo({\"id\":\"1\"})"
 
+-- the root field of an operation, and what it asks for of each object there
 abbrev pub asked_by : Operation → Asked
 asked_by me_id_name = leaves_of (codes "me") (codes "me") (id_leaf ∷ name_leaf ∷ [])
 asked_by me_id = leaves_of (codes "me") (codes "me") (id_leaf ∷ [])

@@ -13,22 +13,27 @@ use Rattle.machine_rows.specs.Operations.{me_id_name, me_nick, todo_id_author, t
 use Rattle.machine_rows.specs.Writing.{link_to}
 use Rattle.machine_rows.specs.Dialogs.{Exchange, gives, client, dispatch, dispatch_under, dispatch_then, teardown, answer, layers, flat, reply, told, fetch, refused, kept}
 
--- the user 7 of this name, as an object of an answer and as it is told
+-- the user 7 of this name, as an object of an answer
 abbrev pub user_object : List ℕ → Value
 user_object name = object ((codes "__typename", text (codes "User")) ∷ (codes "id", text (codes "7")) ∷ (codes "name", text name) ∷ [])
 
+-- the same user as it is told, without `__typename`
 abbrev pub user_shown : List ℕ → Value
 user_shown name = object ((codes "id", text (codes "7")) ∷ (codes "name", text name) ∷ [])
 
+-- an answer whose `me` is the user 7 of this name
 abbrev pub me_answer : List ℕ → Value
 me_answer name = object ((codes "me", user_object name) ∷ [])
 
+-- that answer as it is told
 abbrev pub me_told : List ℕ → Value
 me_told name = object ((codes "me", user_shown name) ∷ [])
 
+-- a listed cell: at this field of this object stands a text
 abbrev pub leaf : List ℕ → List ℕ → List ℕ → Row
 leaf entity field value = (entity, field, cell.Leaf (text value))
 
+-- a listed cell: this field of this object links to another object
 abbrev pub link : List ℕ → List ℕ → List ℕ → Row
 link entity field to = (entity, field, cell.Link (link_to to))
 
@@ -56,7 +61,7 @@ teardown_in_flight =
     ∷ gives layers (kept 1 [] ∷ [])
     ∷ []
 
--- the author of a todo as an answer has it and as it is told
+-- an answer whose `todo` is todo 1 with its author, the user 7 named Bob
 abbrev pub todo_answer : Value
 todo_answer =
     object
@@ -70,6 +75,7 @@ todo_answer =
     )
     ∷ [])
 
+-- that answer as it is told
 abbrev pub todo_told : Value
 todo_told = object ((codes "todo", object ((codes "id", text (codes "1")) ∷ (codes "author", user_shown (codes "Bob")) ∷ [])) ∷ [])
 
@@ -112,7 +118,8 @@ followed_by_a_torn_down_dispatch =
 abbrev pub nick_answer : Value
 nick_answer = object ((codes "me", object ((codes "__typename", text (codes "User")) ∷ (codes "nick", text (codes "an")) ∷ [])) ∷ [])
 
--- a network-only answer without an id leads the root to another object: what others read there is a miss, and only the cache-first query is sent again
+-- a network-only answer without an id leads the root to another object: what others read there is a miss, and only the cache-first
+-- query is sent again
 abbrev pub cache_only_beside_network_only : List Exchange
 cache_only_beside_network_only =
     first_answer
@@ -129,8 +136,10 @@ cache_only_beside_network_only =
 abbrev pub then_asked : Policy → List ℕ → List Out → List Exchange
 then_asked policy document outs = first_answer ++ gives (dispatch_under policy 2 document) outs ∷ []
 
+-- what `{me{id}}` reads after the first answer: a hit
 abbrev pub whole : Value
 whole = object ((codes "me", object ((codes "id", text (codes "7")) ∷ [])) ∷ [])
 
+-- what `{me{id nick}}` reads after the first answer: `nick` may be null and isn't cached, so the reading is partial
 abbrev pub part : Value
 part = object ((codes "me", object ((codes "id", text (codes "7")) ∷ (codes "nick", null) ∷ [])) ∷ [])

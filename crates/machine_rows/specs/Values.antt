@@ -4,18 +4,23 @@ use Rattle.gql_value.specs.declared.value.Value.{Value}
 use Rattle.gql_value.specs.declared.value.Value.TheOpen.{Value-F}
 use Rattle.gql_value.specs.declared.value.Value.TheViews.{roll-Value}
 
+-- the value null
 abbrev pub null : Value
 null = roll-Value Value-F.Null
 
+-- true or false, as a value
 abbrev pub truth : Bool → Value
 truth value = roll-Value (Value-F.Bool value)
 
+-- the text of these bytes, as a value
 abbrev pub text : List ℕ → Value
 text value = roll-Value (Value-F.Text value)
 
+-- a list of these items
 abbrev pub list : List Value → Value
 list items = roll-Value (Value-F.List items)
 
+-- an object with these members, in this order
 abbrev pub object : List (List ℕ × Value) → Value
 object members = roll-Value (Value-F.Obj members)
 

@@ -1,4 +1,4 @@
--- What makes a conflict, part by part.
+-- What makes a conflict of two fields, part by part (after GraphQL October 2021, 5.3.2).
 use Rattle.std.specs.Prelude.{ℕ, Bool, false, ◌&&◌, ◌||◌, not, List, Option, bytes_eq}
 use Rattle.std.specs.Option.{option_map_or}
 use Rattle.gql_model.specs.declared.selection.Argument.{Argument}

@@ -12,6 +12,7 @@ abbrev pub above_path : PlacedFields → Option ℕ → List (List ℕ)
 above_path fields None = []
 above_path fields (Some place) = option_map_or (λ f. f.path) (slice_get fields place) []
 
+-- the types of the sets in which the response keys of that path stand; none for the operation's own set
 abbrev pub above_parents : PlacedFields → Option ℕ → List Parent
 above_parents fields None = []
 above_parents fields (Some place) = option_map_or (λ f. f.parents) (slice_get fields place) []
@@ -31,10 +32,11 @@ abbrev pub IsWithin : Option ℕ → ℕ → Type 0
 IsWithin None n = Unit {0}
 IsWithin (Some place) n = place < n
 
--- each row is below an earlier one
+-- each row is at the top or below an earlier one
 abbrev pub IsOrdered : List Row → Type 0
 IsOrdered rows = (i : ℕ) (row : Row) → slice_get rows i ≡ Some row → IsWithin row.above i
 
+-- as many fields as rows, each the one that the row at its place stands for; each row is at the top or below an earlier one
 pub record Stands (schema : Schema) (rows : List Row) (fields : PlacedFields) : Type 0 where
   pub long : length fields ≡ length rows
   pub field : (i : ℕ) (row : Row) → slice_get rows i ≡ Some row → slice_get fields i ≡ Some (field_of_row schema fields row)
@@ -44,7 +46,7 @@ pub record Stands (schema : Schema) (rows : List Row) (fields : PlacedFields) : 
 abbrev pub under : List (List ℕ) → List Parent → Placed → Placed
 under path parents field = record field { path = path ++ field.path; parents = parents ++ field.parents }
 
--- rows that stand for some fields more; each test finds in these what it finds in those that were to be added
+-- rows that stand for some fields more: a test holds of one of all these just where it holds of one before or of one to be added
 pub record Grown (schema : Schema) (rows : List Row) (fields added : PlacedFields) : Type 0 where
   pub more : PlacedFields
   pub stands : Stands schema rows (fields ++ more)

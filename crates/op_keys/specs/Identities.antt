@@ -1,4 +1,5 @@
--- When two requests are the same one, and the numbers of their identities (after urql, whose operation keys are made of the document's text and the variables).
+-- When two requests are the same one, and the numbers of their identities (after urql, whose operation keys are made of the
+-- document's text and the variables).
 use Rattle.std.specs.Prelude.{ℕ, Bool, ◌&&◌, List, [], ◌∷◌, ◌++◌, Option, cond, bytes_eq}
 use Rattle.std.specs.List.{list_any, position_from}
 use Rattle.std.specs.Option.{option_map_or}
@@ -14,7 +15,8 @@ use Rattle.op_keys.specs.declared.identity.Identity.{Identity}
 abbrev pub name_or_empty : Operation → List ℕ
 name_or_empty operation = option_map_or (λ name. name.text) operation.name []
 
--- what makes a request: the canonical text of the client's document, the name of the chosen operation, and the text of the coerced variables in the order of their names
+-- what makes a request: the canonical text of the client's document, the name of the chosen operation, and the text of the coerced
+-- variables in the order of their names
 abbrev pub identity_of : Document → Operation → List (List ℕ × Value) → Identity
 identity_of document operation variables = record {
   document = canonical_text document;
@@ -30,6 +32,7 @@ Identities = List Identity
 abbrev pub is_same : Identity → Identity → Bool
 is_same a b = bytes_eq a.document b.document && (bytes_eq a.operation b.operation && bytes_eq a.variables b.variables)
 
+-- whether one of the identities that are held equals this one
 abbrev pub holds : Identities → Identity → Bool
 holds held identity = list_any (is_same identity) held
 

@@ -1,4 +1,5 @@
--- The document that is sent for a client's document: `__typename` is put at the front of selection sets, by the rule of `execution_model` (after urql's Graphcache).
+-- The document that is sent for a client's document: `__typename` is put at the front of selection sets, by the rule of
+-- `execution_model` (after urql's Graphcache).
 use Rattle.std.specs.Prelude.{Bool, false, List, [], ◌∷◌, map, None, cond, codes}
 use Rattle.std.specs.Option.{option_map}
 use Rattle.std.specs.List.{list_any}
@@ -37,16 +38,19 @@ pub record FieldSent : Type 0 where
   pub plain : Bool
   pub sent : Parent → Field
 
--- the field that is put in; it stands at the set's own place
+-- the name of the field that is put in; it stands at the set's own place
 abbrev pub typename_name : Place → Name
 typename_name place = record { place = place; text = codes "__typename" }
 
+-- that field at a place, without alias, arguments, directives and set
 abbrev pub typename_field : Place → Field
 typename_field place = roll-Field (record { alias = None; name = typename_name place; arguments = []; directives = []; selection_set = None })
 
+-- that field as a selection
 abbrev pub typename_selection : Place → Selection
 typename_selection place = roll-Selection (Selection-F.Field (typename_field place))
 
+-- a field as it is sent: its set, where it has one, is sent as a field's own, of the type of the field
 abbrev pub field_sent : Schema → Field-F SelectionSent FieldSent (SentIn InlineFragment) SetSent → FieldSent
 field_sent schema field = record {
   plain = is_plain_typename field.alias field.name.text field.directives;
@@ -59,6 +63,7 @@ field_sent schema field = record {
   });
 }
 
+-- an inline fragment as it is sent: its set is of the condition's type, or of the type around it without a condition
 abbrev pub inline_sent : Schema → InlineFragment-F SelectionSent FieldSent (SentIn InlineFragment) SetSent → SentIn InlineFragment
 inline_sent schema fragment parent = roll-InlineFragment (record {
   place = fragment.place;
@@ -67,6 +72,7 @@ inline_sent schema fragment parent = roll-InlineFragment (record {
   selection_set = fragment.selection_set OfFragment (inline_parent schema parent fragment.type_condition);
 })
 
+-- a selection of each form as it is sent; a spread stays as it is
 abbrev pub selection_sent : Selection-F SelectionSent FieldSent (SentIn InlineFragment) SetSent → SelectionSent
 selection_sent (Selection-F.Field field) = record { plain = field.plain; sent = λ parent. roll-Selection (Selection-F.Field (field.sent parent)) }
 selection_sent (Selection-F.Spread spread) = record { plain = false; sent = λ parent. roll-Selection (Selection-F.Spread spread) }
@@ -76,34 +82,42 @@ selection_sent (Selection-F.Inline fragment) = record { plain = false; sent = λ
 abbrev pub with_front : Bool → Place → List Selection → List Selection
 with_front fronted place selections = cond fronted (typename_selection place ∷ selections) selections
 
+-- a set as it is sent: its selections as they are sent, with `__typename` before them where the rule has it
 abbrev pub set_sent : Schema → Bool → SelectionSet-F SelectionSent FieldSent (SentIn InlineFragment) SetSent → SetSent
 set_sent schema subscribes set owner parent = roll-SelectionSet (record {
   place = set.place;
   selections = with_front (is_fronted schema subscribes owner parent (list_any (λ s. s.plain) set.selections)) set.place (map (λ s. s.sent parent) set.selections);
 })
 
+-- a whole selection set as it is sent, in a document that has a subscription or not
 abbrev pub sent_set : Schema → Bool → SelectionSet → SetSent
 sent_set schema subscribes =
     fold-SelectionSet SelectionSent FieldSent (SentIn InlineFragment) SetSent selection_sent (field_sent schema) (inline_sent schema) (set_sent schema subscribes)
 
+-- the same of a selection, and whether it is a plain `__typename`
 abbrev pub sent_selection : Schema → Bool → Selection → SelectionSent
 sent_selection schema subscribes =
     fold-Selection SelectionSent FieldSent (SentIn InlineFragment) SetSent selection_sent (field_sent schema) (inline_sent schema) (set_sent schema subscribes)
 
+-- the same of a field, and whether it is a plain `__typename`
 abbrev pub sent_field : Schema → Bool → Field → FieldSent
 sent_field schema subscribes =
     fold-Field SelectionSent FieldSent (SentIn InlineFragment) SetSent selection_sent (field_sent schema) (inline_sent schema) (set_sent schema subscribes)
 
+-- the same of an inline fragment
 abbrev pub sent_inline : Schema → Bool → InlineFragment → SentIn InlineFragment
 sent_inline schema subscribes =
     fold-InlineFragment SelectionSent FieldSent (SentIn InlineFragment) SetSent selection_sent (field_sent schema) (inline_sent schema) (set_sent schema subscribes)
 
+-- an operation as it is sent: its own set is of the root type of its kind
 abbrev pub sent_operation : Schema → Bool → Operation → Operation
 sent_operation schema subscribes d = record d { selection_set = sent_set schema subscribes d.selection_set OfOperation (root_parent schema d.kind) }
 
+-- a fragment as it is sent: its set is of the type of its condition
 abbrev pub sent_fragment : Schema → Bool → Fragment → Fragment
 sent_fragment schema subscribes d = record d { selection_set = sent_set schema subscribes d.selection_set OfFragment (composite_named schema d.type_condition.text) }
 
+-- a definition as it is sent; one of the type system stays as it is
 abbrev pub sent_definition : Schema → Bool → Definition → Definition
 sent_definition schema subscribes (definition.Operation d) = definition.Operation (sent_operation schema subscribes d)
 sent_definition schema subscribes (definition.Fragment d) = definition.Fragment (sent_fragment schema subscribes d)

@@ -30,6 +30,7 @@ truth name value = (name, truth_text value)
 abbrev pub code : List ℕ → Member
 code word = (codes "code", word_text word)
 
+-- the value is a list that isn't empty
 abbrev pub level_has_entries : Value-F Value → Bool
 level_has_entries (Value-F.List []) = false
 level_has_entries (Value-F.List (entry ∷ entries)) = true
@@ -39,7 +40,8 @@ level_has_entries _ = false
 abbrev pub has_entries : Value → Bool
 has_entries errors = level_has_entries (out-Value errors)
 
--- data for an operation; `errors` only where the answer that brought it has some. They stand as they came; of JSON that was read the members are in the order of their names
+-- data for an operation; `errors` only where the answer that brought it has some. They stand as they came; of JSON that
+-- was read the members are in the order of their names
 abbrev pub reply_parts : ℕ → Value → Value → Bool → Bool → Bool → List Member
 reply_parts id answer errors true partial stale =
     number (codes "id") id ∷ (codes "data", text_of answer) ∷ (codes "errors", text_of errors) ∷ truth (codes "partial") partial ∷ truth (codes "stale") stale ∷ []

@@ -41,6 +41,7 @@ abbrev pub with_value : Option (List Value) → Option Value → Option (List Va
 with_value (Some values) (Some value) = Some (values ++ value ∷ [])
 with_value _ _ = None
 
+-- the values of all that was found behind those so far, where each of them is there
 abbrev pub with_values : Option (List Value) → List Found → Option (List Value)
 with_values values [] = values
 with_values values (found ∷ founds) = with_values (with_value values found.value) founds
@@ -78,6 +79,7 @@ with_position object position = record {
   something = object.something || has_something position;
 }
 
+-- one field more for each of these positions, in order
 abbrev pub with_positions : Object → List Position → Object
 with_positions object [] = object
 with_positions object (position ∷ positions) = with_positions (with_position object position) positions

@@ -73,9 +73,11 @@ selection_step (Selection-F.Field field) = field
 selection_step (Selection-F.Spread spread) = None
 selection_step (Selection-F.Inline fragment) = None
 
+-- an inline fragment is never plain
 abbrev pub inline_step : InlineFragment-F Plain Plain Plain (Option Fields) → Plain
 inline_step fragment = None
 
+-- the fields of a selection set, where each of its selections is plain and no two have one name
 abbrev pub set_step : SelectionSet-F Plain Plain Plain (Option Fields) → Option Fields
 set_step set = with_fields [] set.selections
 
@@ -105,11 +107,13 @@ is_plain operation = is_query operation.kind && is_none operation.name && is_emp
 abbrev pub plain_operation : Operation → Option Fields
 plain_operation operation = if is_plain operation then plain_set operation.selection_set else None
 
+-- the fields of a definition, where it is an operation and plain; a fragment and a type system definition never are
 abbrev pub plain_definition : Definition → Option Fields
 plain_definition (definition.Operation operation) = plain_operation operation
 plain_definition (definition.Fragment fragment) = None
 plain_definition (definition.TypeSystem d) = None
 
+-- the fields of the one definition among these, where there is no other and it is plain
 abbrev pub plain_definitions : List Definition → Option Fields
 plain_definitions [] = None
 plain_definitions (one ∷ []) = plain_definition one

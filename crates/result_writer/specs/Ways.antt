@@ -39,29 +39,35 @@ Going = List ℕ → Value → List Found → Way
 abbrev pub place_of : spec.Field → List ℕ → Path
 place_of field places = at_places (spec.path_of field.object field.asked) places
 
+-- a way that ends at a place that doesn't fit, with the objects that were found before
 abbrev pub misfit_way : Path → List Found → Way
 misfit_way path found = record { link = Err (path_text path); found = found }
 
+-- a null in a field's lists: a null link, or no fit where the type is Non-Null (`required`)
 abbrev pub null_way : spec.Field → List ℕ → Bool → List Found → Way
 null_way field places required found = record { link = cond required (Err (path_text (place_of field places))) (Ok link.Null); found = found }
 
+-- the object of this type at these indexes of a field's lists, with what the operation as it is sent asks of it
 abbrev pub found_at : spec.Answered → spec.Field → List ℕ → Pairs → ObjectType → Found
 found_at answered field places members type = record {
   object = spec.object_of answered field type places members;
   asked = asked_as_sent answered.execution type.0 field.asked.sets;
 }
 
+-- a way that leads to an object of this type: a link to its key, and the object behind those that were found before
 abbrev pub object_way : spec.Answered → spec.Field → List ℕ → Pairs → List Found → ObjectType → Way
 object_way answered field places members found type = record {
   link = Ok (link.Entity (spec.entity_of answered field type places members));
   found = found ++ found_at answered field places members type ∷ [];
 }
 
+-- an object of the type that its `__typename` names; without the name of a type possible at the field the `__typename` doesn't fit
 abbrev pub members_way : spec.Answered → spec.Field → List ℕ → Pairs → List Found → Way
 members_way answered field places members found =
     option_map_or (object_way answered field places members found) (type_of_members answered.execution.schema field.parent members)
     (misfit_way (spec.typename_path field places) found)
 
+-- at a named type null leads to a null link where it may stand, an object to a link to it, and any other value doesn't fit
 abbrev pub named_way : spec.Answered → spec.Field → Bool → List ℕ → Value-F Value → List Found → Way
 named_way answered field required places Value-F.Null found = null_way field places required found
 named_way answered field required places (Value-F.Obj members) found = members_way answered field places members found
@@ -80,15 +86,18 @@ items_way item places at [] links found = record { link = Ok (link.List links); 
 items_way item places at (value ∷ values) links found =
     behind_item (items_way item places (at + 1) values) links (item (places ++ at ∷ []) value found).found (item (places ++ at ∷ []) value found).link
 
+-- at a list type null leads to a null link where it may stand, a list on to its items, and any other value doesn't fit
 abbrev pub list_way : Going → spec.Field → Bool → List ℕ → Value-F Value → List Found → Way
 list_way item field required places Value-F.Null found = null_way field places required found
 list_way item field required places (Value-F.List values) found = items_way item places 0 values [] found
 list_way item field required places _ found = misfit_way (place_of field places) found
 
+-- one level of a composite field's type: the named type, or a list type, where it is known how it goes on at an item
 abbrev pub way_step : spec.Answered → spec.Field → TypeRef-F Going → Going
 way_step answered field (TypeRef-F.Named name required) places value found = named_way answered field required places (out-Value value) found
 way_step answered field (TypeRef-F.List item required) places value found = list_way item field required places (out-Value value) found
 
+-- the way by a value at a composite field's type, list by list down to the objects
 abbrev pub way : spec.Answered → spec.Field → TypeRef → Going
 way answered field = fold-TypeRef Going (way_step answered field)
 
@@ -110,6 +119,8 @@ with_link (Ok link) (Ok writes) = Ok (record { link = link; writes = writes })
 with_link (Err path) (Ok writes) = Err path
 with_link _ (Err path) = Err path
 
+-- where a way leads, with what `write` gives for its objects; of places that don't fit, one in an object that was found
+-- is told before the one at which the way ends
 abbrev pub walked : (Found → spec.Writes) → Way → Result spec.Linked (List ℕ)
 walked write way = with_link way.link (told (spec.written_of_each write way.found))
 

@@ -56,6 +56,7 @@ deepest_kept = 126
 abbrev pub kept_value : Value → Option Value
 kept_value value = cond (nat_lt deepest_kept (depth value)) None (Some value)
 
+-- what a term stands for: an argument's value, a member of the object, or the literal; none where the name has no value
 abbrev pub named_value : Scope → Term → Option Value
 named_value scope (Argument name) = entry scope.arguments name
 named_value scope (Member name) = entry scope.members name
@@ -81,6 +82,7 @@ abbrev pub argument_given : Defaults → Schema → Pairs → List ℕ × InputV
 argument_given defaults schema values defined =
     option_map_or (λ value. offered defaults schema value (Some defined.1.input_type.type_ref)) (entry values defined.0) Absent
 
+-- an argument's name, with what these values give of it, or its default where they give nothing
 abbrev pub argument_member : Defaults → Schema → Pairs → List ℕ × InputValue → List ℕ × Given
 argument_member defaults schema values defined =
     (defined.0, or_default defined.1 (argument_default defaults schema defined.1) (argument_given defaults schema values defined))
@@ -96,6 +98,7 @@ pub record Running : Type 0 where
   pub execution : Execution
   pub scope : Scope
 
+-- the coerced arguments of the field that an action changes; none where a term has no value or the values don't coerce
 abbrev pub target_arguments : Running → NamedTerms → SchemaField → Option Pairs
 target_arguments running args field =
     option_and_then (coerced_values running.execution.defaults running.execution.schema field.arguments) (values_onto running.scope [] args)
@@ -135,6 +138,7 @@ updater_write running updater = option_and_then (action_write running updater.na
 abbrev pub is_on : List ℕ → List ℕ → List ℕ → Bool
 is_on root field on = option_map_or (bytes_eq field) (field_behind root on) false
 
+-- what an updater writes where it is on this root field; an updater on another one writes nothing
 abbrev pub write_if_on : Running → List ℕ → List ℕ → Updater → Option Write
 write_if_on running root field updater = cond (is_on root field updater.on) (updater_write running updater) None
 
@@ -145,13 +149,15 @@ updates rules root execution asked members =
 
 -- ---- on an answer
 
--- a root field's own members by name: those of its fields without arguments, where it has an object of a type that is possible there
+-- of a root field's object of this type, the members of the fields without arguments, under the names of these fields
 abbrev pub typed_members : Execution → Asked → Pairs → ObjectType → Pairs
 typed_members execution asked members type = plain_members (record { execution = execution; keys = []; errors = [] }) type asked.sets members
 
+-- the same of an object whose `__typename` tells its type; none where that type isn't possible at this composite type
 abbrev pub object_members : Execution → Asked → TypeId → Pairs → Pairs
 object_members execution asked parent members = option_map_or (typed_members execution asked members) (type_of_members execution.schema parent members) []
 
+-- the same of whatever a root field has; none where it has no object, as with null, a list or a leaf
 abbrev pub result_members : Execution → Asked → Value → Pairs
 result_members execution asked value =
     option_map_or (λ parent. option_map_or (object_members execution asked parent) (members_in (out-Value value)) [])
@@ -170,6 +176,7 @@ root_fields execution = option_map_or (λ type. asked_as_sent execution type (ro
 abbrev pub root_type_name : Execution → List ℕ
 root_type_name execution = option_map_or (λ t. t.0) (option_and_then (type_at execution.schema) (root_type execution)) []
 
+-- what updaters write on an answer for one root field of it
 abbrev pub field_updates : Rules → Execution → Value → Asked → List Write
 field_updates rules execution answer asked = updates rules (root_type_name execution) execution asked (answered_members execution answer asked)
 
@@ -187,6 +194,7 @@ optimistic_on rules root field = find (λ rule. is_on root field rule.on) rules.
 abbrev pub arguments_alone : Pairs → Scope
 arguments_alone arguments = record { arguments = arguments; members = [] }
 
+-- a field that an optimistic rule lists, with its value by these arguments; none where its term has no value
 abbrev pub listed_value : Pairs → List ℕ × Term → Option (List ℕ × Value)
 listed_value arguments field = option_map (λ value. (field.0, value)) (term_value (arguments_alone arguments) field.1)
 
@@ -212,9 +220,11 @@ own_writes keys rule members =
 abbrev pub declared_with : Rules → Execution → Asked → Optimistic → Pairs → List Write
 declared_with rules execution asked rule members = own_writes rules.keys rule members ++ updates rules (root_type_name execution) execution asked members
 
+-- the same, with the members that the rule gives by the values of the root field's arguments
 abbrev pub declared_writes : Rules → Execution → Asked → Optimistic → List Write
 declared_writes rules execution asked rule = declared_with rules execution asked rule (optimistic_members rule asked.arguments)
 
+-- what is written for one root field before an answer; nothing where it has no optimistic rule
 abbrev pub field_declared : Rules → Execution → Asked → List Write
 field_declared rules execution asked =
     option_map_or (declared_writes rules execution asked) (optimistic_on rules (root_type_name execution) asked.name) []
@@ -223,6 +233,7 @@ field_declared rules execution asked =
 abbrev pub optimistic_writes_of : Rules → Execution → List Write
 optimistic_writes_of rules execution = flat_map (field_declared rules execution) (root_fields execution)
 
+-- whether a root field has an optimistic rule
 abbrev pub has_optimistic : Rules → Execution → Asked → Bool
 has_optimistic rules execution asked = is_some (optimistic_on rules (root_type_name execution) asked.name)
 

@@ -18,10 +18,12 @@ use Rattle.rule_effects.specs.Effects.{argument_given}
 abbrev pub values_of_none : Defaults → Schema → List (List ℕ × InputValue) → Pairs
 values_of_none defaults schema defined = coerced_arguments defaults schema [] defined []
 
+-- whether one level of a value is null
 abbrev pub null_level : Value-F Value → Bool
 null_level Value-F.Null = true
 null_level _ = false
 
+-- whether a value is null
 abbrev pub is_null : Value → Bool
 is_null value = null_level (out-Value value)
 
@@ -29,6 +31,7 @@ is_null value = null_level (out-Value value)
 abbrev pub value_or_refused : InputValue → Value → Given
 value_or_refused defined value = cond (is_null value && is_non_null defined.input_type.type_ref) Refused (Is value)
 
+-- what stands for an argument that isn't given, by its value in `values_of_none`; nothing where it has none there
 abbrev pub not_given : InputValue → Option Value → Given
 not_given defined value = option_map_or (value_or_refused defined) value Absent
 
@@ -37,6 +40,7 @@ abbrev pub or_not_given : InputValue → Option Value → Given → Given
 or_not_given defined value Absent = not_given defined value
 or_not_given defined value given = given
 
+-- an argument's name, with what `values` give of it, or where they give nothing, what its value among `members` comes to
 abbrev pub member_with_default : Defaults → Schema → Pairs → Pairs → List ℕ × InputValue → List ℕ × Given
 member_with_default defaults schema members values defined =
     (defined.0, or_not_given defined.1 (entry members defined.0) (argument_given defaults schema values defined))

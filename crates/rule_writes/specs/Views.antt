@@ -21,6 +21,7 @@ pub record IsAsSent (asking : Asking) : Type 0 where
 abbrev pub Lent : Type 0
 Lent = List (Bor (List ℕ) × Bor Value)
 
+-- the names and values that are lent
 abbrev pub pairs_of : Lent → Pairs
 pairs_of lent = map (λ m. (m.0.now, m.1.now)) lent
 

@@ -1,4 +1,5 @@
--- What a rules file comes to: its rules, or the first table that is refused, with the least code that it breaks. `keys` comes first, by name, then the updaters and then the optimistic rules, in the order of the file.
+-- What a rules file comes to: its rules, or the first table that is refused, with the least code that it breaks.
+-- `keys` comes first, by name, then the updaters and then the optimistic rules, in the order of the file.
 use Rattle.std.specs.Prelude.{ℕ, ◌+◌, Bool, true, ◌&&◌, ◌||◌, not, List, [], ◌∷◌, ◌++◌, length, Option, Some, None, Result, Ok, Err, is_some, cond, codes, bytes_eq, decimal}
 use Rattle.std.specs.Option.{option_map_or}
 use Rattle.std.specs.Str.{is_utf8}
@@ -14,6 +15,7 @@ use Rattle.rules_model.specs.Forms.{updater_of, optimistic_of}
 use Rattle.rules_model.specs.Keys.{KeySettings, has_arguments}
 use Rattle.rules_model.specs.Faults.{is_object_named, has_field, updater_fault, optimistic_fault}
 
+-- the refusal of the table of this name, by the number of its code
 abbrev pub refusal : ℕ → List ℕ → Refusal
 refusal code name = record { code = code; name = name }
 
@@ -33,6 +35,7 @@ numbered word earlier = word ++ decimal (earlier + 1)
 
 -- ---- keys
 
+-- the name of a setting, as in `keys.User`
 abbrev pub key_name : List ℕ → List ℕ
 key_name type = codes "keys." ++ type
 
@@ -60,9 +63,11 @@ keys_onto schema keys (p ∷ ps) = then_with (λ found. keys_onto schema (keys +
 
 -- ---- updaters and optimistic rules
 
+-- the name of the updater behind these, as in `updater 1`
 abbrev pub updater_name : List Updater → List ℕ
 updater_name earlier = numbered (codes "updater ") (length earlier)
 
+-- the updater behind these that TOML data is: U2 where it hasn't the form, else the least code that it breaks
 abbrev pub judged_updater : Schema → List Updater → Data → Result Updater Refusal
 judged_updater schema earlier d =
     option_map_or (λ updater. unless_broken (updater_name earlier) updater (updater_fault schema updater)) (updater_of schema d) (Err (refusal 2 (updater_name earlier)))
@@ -72,9 +77,11 @@ abbrev pub updaters_onto : Schema → List Updater → List Data → Result (Lis
 updaters_onto schema updaters [] = Ok updaters
 updaters_onto schema updaters (d ∷ ds) = then_with (λ updater. updaters_onto schema (updaters ++ updater ∷ []) ds) (judged_updater schema updaters d)
 
+-- the name of the optimistic rule behind these, as in `optimistic 1`
 abbrev pub optimistic_name : List Optimistic → List ℕ
 optimistic_name earlier = numbered (codes "optimistic ") (length earlier)
 
+-- the optimistic rule behind these that TOML data is: U2 where it hasn't the form, else the least code that it breaks
 abbrev pub judged_optimistic : Schema → KeySettings → List Optimistic → Data → Result Optimistic Refusal
 judged_optimistic schema keys earlier d =
     option_map_or (λ rule. unless_broken (optimistic_name earlier) rule (optimistic_fault schema keys earlier rule)) (optimistic_of d) (Err (refusal 2 (optimistic_name earlier)))
@@ -86,6 +93,7 @@ optimistic_onto schema keys rules (d ∷ ds) = then_with (λ rule. optimistic_on
 
 -- ---- the whole file
 
+-- the members of a rules file
 abbrev pub is_table_key : List ℕ → Bool
 is_table_key key = bytes_eq key (codes "keys") || bytes_eq key (codes "updater") || bytes_eq key (codes "optimistic")
 
@@ -101,16 +109,20 @@ may_be_list key table = option_map_or (λ d. is_some (as_array d)) (get_member k
 abbrev pub has_tables : Members → Bool
 has_tables file = has_only is_table_key file && may_be_table (codes "keys") file && may_be_list (codes "updater") file && may_be_list (codes "optimistic") file
 
+-- the three parts of a file as its rules
 abbrev pub with_optimistic : KeySettings → List Updater → List Optimistic → Rules
 with_optimistic keys updaters optimistic = record { keys = keys; updaters = updaters; optimistic = optimistic }
 
+-- the rules with these key settings and updaters, and with the optimistic rules of the file
 abbrev pub with_updaters : Schema → Members → KeySettings → List Updater → Result Rules Refusal
 with_updaters schema file keys updaters =
     then_with (λ optimistic. Ok (with_optimistic keys updaters optimistic)) (optimistic_onto schema keys [] (items_under (codes "optimistic") file))
 
+-- the rules with these key settings, and with the updaters and the optimistic rules of the file
 abbrev pub with_keys : Schema → Members → KeySettings → Result Rules Refusal
 with_keys schema file keys = then_with (with_updaters schema file keys) (updaters_onto schema [] (items_under (codes "updater") file))
 
+-- the rules of the file: its key settings, then its updaters, then its optimistic rules; the first that is refused ends it
 abbrev pub rules_of_tables : Schema → Members → Result Rules Refusal
 rules_of_tables schema file = then_with (with_keys schema file) (keys_onto schema [] (pairs_under (codes "keys") file))
 

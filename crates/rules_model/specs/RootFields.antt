@@ -1,4 +1,5 @@
--- Which root field a rule is on: `on` has the name of the root type, a dot and the name of the field, as a schema coordinate has them (GraphQL RFC on schema coordinates).
+-- Which root field a rule is on: `on` has the name of the root type, a dot and the name of the field, as a schema coordinate has
+-- them (GraphQL RFC on schema coordinates).
 use Rattle.std.specs.Prelude.{ℕ, ◌==◌, List, [], ◌∷◌, Option, Some, None, cond}
 use Rattle.std.specs.Option.{option_and_then, option_or}
 use Rattle.gql_model.specs.declared.executable.OperationKind.{OperationKind}
@@ -23,6 +24,7 @@ field_behind name on = option_and_then (behind_mark 46) (behind name on)
 abbrev pub field_named : Schema → List ℕ → List ℕ → Option SchemaField
 field_named schema named field = option_and_then (λ t. field_in t.form field) (entry schema.types named)
 
+-- the field that `on` names on the root type of this name; none where `on` doesn't begin with that name and a dot
 abbrev pub field_at : Schema → List ℕ → List ℕ → Option SchemaField
 field_at schema root on = option_and_then (field_named schema root) (field_behind root on)
 

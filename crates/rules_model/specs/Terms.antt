@@ -17,6 +17,7 @@ abbrev pub behind_mark : ℕ → List ℕ → Option (List ℕ)
 behind_mark mark [] = None
 behind_mark mark (b ∷ bs) = cond (b == mark) (Some bs) None
 
+-- a text that stands for itself
 abbrev pub literal_text : List ℕ → Term
 literal_text text = Literal (value.Text text)
 
@@ -32,9 +33,11 @@ member_term text = option_map_or Member (behind_mark 64 text) (plain_term text)
 abbrev pub text_term : List ℕ → Term
 text_term text = option_map_or Argument (behind_mark 36 text) (member_term text)
 
+-- the term that a truth value is; other data is none
 abbrev pub truth_term : Data → Option Term
 truth_term d = option_map (λ b. Literal (value.Bool b)) (as_bool d)
 
+-- the term that a whole number or a truth value is; other data is none
 abbrev pub number_term : Data → Option Term
 number_term d = option_map_or (λ n. Some (Literal (value.Int n))) (as_integer d) (truth_term d)
 

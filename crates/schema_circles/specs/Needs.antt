@@ -22,6 +22,7 @@ needed_type schema (TypeRef-F.List inner required) = None
 abbrev pub needed : Schema → InputValue → Option ℕ
 needed schema input = needed_type schema (out-TypeRef input.input_type.type_ref)
 
+-- the places of the types that these input fields need
 abbrev pub needed_by : Schema → List (List ℕ × InputValue) → List ℕ
 needed_by schema fields = flat_map (λ f. option_to_list (needed schema f.1)) fields
 
@@ -34,6 +35,7 @@ needs schema _ = []
 abbrev pub needs_graph : Schema → List NamedType → Graph
 needs_graph schema types = map (λ t. needs schema t.1.form) types
 
+-- the line of each type, in order
 abbrev pub type_lines : List NamedType → List ℕ
 type_lines types = map (λ t. t.1.line) types
 

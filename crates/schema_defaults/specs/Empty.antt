@@ -6,6 +6,7 @@ use Rattle.schema_model.specs.declared.schema.TypeForm.TheVariants as form
 use Rattle.schema_model.specs.Schemas.{NamedType}
 use Rattle.schema_rules.specs.Lines.{least_by}
 
+-- a type has none of the fields, members or values that its form asks for; a scalar has nothing to lack
 abbrev pub is_empty : TypeForm → Bool
 is_empty form.Scalar = false
 is_empty (form.Object parts) = length parts.fields == 0

@@ -28,6 +28,7 @@ is_custom name =
     not (bytes_eq name (codes "Int") || bytes_eq name (codes "Float") || bytes_eq name (codes "String")
     || bytes_eq name (codes "Boolean") || bytes_eq name (codes "ID"))
 
+-- from -2^31 to 2^31 - 1, as an Int is (GraphQL October 2021, 3.5.1)
 abbrev pub fits_32_bits : ℤ → Bool
 fits_32_bits n = int_le (negsuc 2147483647) n && int_le n (pos 2147483647)
 
@@ -40,11 +41,13 @@ scalar_takes_integer name n =
 abbrev pub scalar_takes_string : List ℕ → Bool
 scalar_takes_string name = bytes_eq name (codes "String") || bytes_eq name (codes "ID") || is_custom name
 
+-- `true` and `false` are a Boolean
 abbrev pub scalar_takes_boolean : List ℕ → Bool
 scalar_takes_boolean name = bytes_eq name (codes "Boolean") || is_custom name
 
 -- ---- named types
 
+-- a type is a scalar, built in or custom
 abbrev pub is_scalar : TypeForm → Bool
 is_scalar form.Scalar = true
 is_scalar _ = false
@@ -53,12 +56,15 @@ is_scalar _ = false
 abbrev pub names_scalar : Schema → List ℕ → Bool
 names_scalar schema name = option_map_or (λ t. is_scalar t.form) (entry schema.types name) false
 
+-- an integer fits a scalar that takes it
 abbrev pub takes_integer : Schema → ℤ → List ℕ → Bool
 takes_integer schema n name = names_scalar schema name && scalar_takes_integer name n
 
+-- a string fits a scalar that takes strings
 abbrev pub takes_string : Schema → List ℕ → Bool
 takes_string schema name = names_scalar schema name && scalar_takes_string name
 
+-- `true` and `false` fit a scalar that takes them
 abbrev pub takes_boolean : Schema → List ℕ → Bool
 takes_boolean schema name = names_scalar schema name && scalar_takes_boolean name
 
@@ -98,9 +104,12 @@ given_names fields = map (λ f. (f.0, 0)) fields
 abbrev pub is_given : List Mark → List ℕ × InputValue → Bool
 is_given names d = meets d.0 names || not (is_required d.1)
 
+-- each field that is given is one of the type's and fits, and each of the type's is given or need not be
+-- (GraphQL October 2021, 5.6.2 and 5.6.4)
 abbrev pub fields_fit : List (List ℕ × InputValue) → List FieldFit → Bool
 fields_fit declared fields = list_all (field_fits declared) fields && list_all (is_given (given_names fields)) declared
 
+-- the fields of an object literal fit those of an input object type; they fit no other type
 abbrev pub form_takes_object : TypeForm → List FieldFit → Bool
 form_takes_object (form.Input declared) fields = fields_fit declared fields
 form_takes_object _ fields = false
@@ -110,6 +119,7 @@ abbrev pub object_fits : Schema → List FieldFit → List ℕ → Bool
 object_fits schema fields name =
     option_map_or (λ t. form_takes_object t.form fields) (entry schema.types name) false || takes_any schema name
 
+-- a literal fits where its value does
 abbrev pub literal_step : Literal-F Fit Fit FieldFit → Fit
 literal_step l = l.value
 
@@ -124,6 +134,7 @@ value_step schema (LiteralValue-F.Enum word) t = takes_name schema word (named_t
 value_step schema (LiteralValue-F.List items) t = list_fits schema items (out-TypeRef t)
 value_step schema (LiteralValue-F.Object fields) t = object_fits schema fields (named_type t)
 
+-- a field of an object literal, by its name and the types that its value fits
 abbrev pub field_step : ObjectField-F Fit Fit FieldFit → FieldFit
 field_step f = (f.name.text, f.value)
 
@@ -131,8 +142,10 @@ field_step f = (f.name.text, f.value)
 abbrev pub literal_fits : Schema → Literal → Fit
 literal_fits schema = fold-Literal Fit Fit FieldFit (value_step schema) literal_step field_step
 
+-- what types the value of a literal fits
 abbrev pub value_fits : Schema → LiteralValue → Fit
 value_fits schema = fold-LiteralValue Fit Fit FieldFit (value_step schema) literal_step field_step
 
+-- the name of a field of an object literal, and what types its value fits
 abbrev pub object_field_fits : Schema → ObjectField → FieldFit
 object_field_fits schema = fold-ObjectField Fit Fit FieldFit (value_step schema) literal_step field_step

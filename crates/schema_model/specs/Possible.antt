@@ -20,6 +20,7 @@ abbrev pub has_member : TypeForm → List ℕ → Bool
 has_member (form.Union members) name = is_some (entry members name)
 has_member _ name = false
 
+-- a type is an object type, as each possible type is
 abbrev pub is_object : TypeForm → Bool
 is_object (form.Object parts) = true
 is_object _ = false

@@ -22,6 +22,7 @@ is_input (form.Enum values) = true
 is_input (form.Input fields) = true
 is_input _ = false
 
+-- a type is an interface, which alone may stand behind `implements`
 abbrev pub is_interface : TypeForm → Bool
 is_interface (form.Interface parts) = true
 is_interface _ = false

@@ -16,6 +16,7 @@ no_query roots = cond (is_some roots.query) None (Some 0)
 abbrev pub not_object : Schema → RootName → Option ℕ
 not_object schema root = cond (option_map_or (λ t. is_object t.form) (entry schema.types root.text) false) None (Some root.line)
 
+-- the same of a root that may be missing, which is no fault here
 abbrev pub root_fault : Schema → Option RootName → Option ℕ
 root_fault schema root = option_and_then (not_object schema) root
 
@@ -23,6 +24,7 @@ root_fault schema root = option_and_then (not_object schema) root
 abbrev pub one_type : RootName → RootName → Option ℕ
 one_type a b = cond (bytes_eq a.text b.text) (Some (max a.line b.line)) None
 
+-- the same of two roots, where both are there
 abbrev pub two_roots : Option RootName → Option RootName → Option ℕ
 two_roots a b = option_and_then (λ x. option_and_then (one_type x) b) a
 

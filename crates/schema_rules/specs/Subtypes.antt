@@ -28,6 +28,7 @@ abbrev pub sub_list : (TypeRef → Bool) → Bool → TypeRef-F TypeRef → Bool
 sub_list fits required (TypeRef-F.Named name other) = false
 sub_list fits required (TypeRef-F.List inner other) = may_be required other && fits inner
 
+-- which types a type may stand for, where it is known of a list which types its item type may stand for
 abbrev pub sub_step : Schema → TypeRef-F (TypeRef → Bool) → TypeRef → Bool
 sub_step schema (TypeRef-F.Named name required) other = sub_named schema name required (out-TypeRef other)
 sub_step schema (TypeRef-F.List fits required) other = sub_list fits required (out-TypeRef other)
@@ -36,18 +37,22 @@ sub_step schema (TypeRef-F.List fits required) other = sub_list fits required (o
 abbrev pub is_subtype : Schema → TypeRef → TypeRef → Bool
 is_subtype schema = fold-TypeRef (TypeRef → Bool) (sub_step schema)
 
+-- both are true, or both are false
 abbrev pub same_bool : Bool → Bool → Bool
 same_bool true b = b
 same_bool false b = not b
 
+-- the other is a named type of this name, and Non-Null just where this one is
 abbrev pub same_named : List ℕ → Bool → TypeRef-F TypeRef → Bool
 same_named name required (TypeRef-F.Named other_name other) = same_bool required other && bytes_eq name other_name
 same_named name required (TypeRef-F.List inner other) = false
 
+-- the other is a list, Non-Null just where this one is, and its item type is the same
 abbrev pub same_list : (TypeRef → Bool) → Bool → TypeRef-F TypeRef → Bool
 same_list same required (TypeRef-F.Named name other) = false
 same_list same required (TypeRef-F.List inner other) = same_bool required other && same inner
 
+-- which types are the same as a type, where it is known of a list which types are the same as its item type
 abbrev pub same_step : TypeRef-F (TypeRef → Bool) → TypeRef → Bool
 same_step (TypeRef-F.Named name required) other = same_named name required (out-TypeRef other)
 same_step (TypeRef-F.List same required) other = same_list same required (out-TypeRef other)

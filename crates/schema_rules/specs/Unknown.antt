@@ -24,6 +24,7 @@ is_type_system_location name =
     || bytes_eq name (codes "UNION") || bytes_eq name (codes "ENUM") || bytes_eq name (codes "ENUM_VALUE")
     || bytes_eq name (codes "INPUT_OBJECT") || bytes_eq name (codes "INPUT_FIELD_DEFINITION")
 
+-- where a directive may stand at all
 abbrev pub is_location : List ℕ → Bool
 is_location name = is_executable_location name || is_type_system_location name
 
@@ -31,18 +32,23 @@ is_location name = is_executable_location name || is_type_system_location name
 abbrev pub unknown : Schema → List ℕ → ℕ → Option ℕ
 unknown schema name line = cond (is_some (entry schema.types name)) None (Some line)
 
+-- a type that doesn't exist is a fault in every role
 abbrev pub unknown_type : Schema → Judgement
 unknown_type schema role name line = unknown schema name line
 
+-- the line of a location that there isn't
 abbrev pub unknown_location : Name → Option ℕ
 unknown_location name = cond (is_location name.text) None (Some name.place.row)
 
+-- the least line of an unknown location of a directive
 abbrev pub unknown_locations : List ℕ × SchemaDirective → Option ℕ
 unknown_locations d = least_by unknown_location d.1.locations
 
+-- the line of a root whose name no type has; a root that is missing is no fault here
 abbrev pub unknown_root : Schema → Option RootName → Option ℕ
 unknown_root schema root = option_and_then (λ r. unknown schema r.text r.line) root
 
+-- the least line of a root whose name no type has
 abbrev pub unknown_roots : Schema → Option ℕ
 unknown_roots schema =
     earlier (unknown_root schema schema.roots.query) (earlier (unknown_root schema schema.roots.mutation) (unknown_root schema schema.roots.subscription))

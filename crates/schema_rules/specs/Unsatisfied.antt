@@ -34,9 +34,11 @@ does_for schema wanted field =
     && list_all (has_argument field) wanted.arguments
     && list_all (may_have_argument wanted) field.arguments
 
+-- whether a type has a field of this name, and it does for the interface's
 abbrev pub has_field : Schema → Interfaced → List ℕ × SchemaField → Bool
 has_field schema parts wanted = option_map_or (does_for schema wanted.1) (entry parts.fields wanted.0) false
 
+-- whether a type itself implements an interface that its interface implements
 abbrev pub has_interface : Interfaced → Mark → Bool
 has_interface parts wanted = is_some (entry parts.interfaces wanted.0)
 
@@ -58,14 +60,17 @@ satisfies schema own parts name =
 abbrev pub unsatisfied : Schema → List ℕ → Interfaced → Mark → Option ℕ
 unsatisfied schema own parts interface = cond (satisfies schema own parts interface.0) None (Some interface.1)
 
+-- the least line of an interface behind `implements` that the type of this name and these parts doesn't satisfy
 abbrev pub unsatisfied_parts : Schema → List ℕ → Interfaced → Option ℕ
 unsatisfied_parts schema own parts = least_by (unsatisfied schema own parts) parts.interfaces
 
+-- the same by the form of the type; only object types and interfaces implement anything
 abbrev pub unsatisfied_form : Schema → List ℕ → TypeForm → Option ℕ
 unsatisfied_form schema own (form.Object parts) = unsatisfied_parts schema own parts
 unsatisfied_form schema own (form.Interface parts) = unsatisfied_parts schema own parts
 unsatisfied_form schema own _ = None
 
+-- the same of a type under its name
 abbrev pub unsatisfied_in : Schema → NamedType → Option ℕ
 unsatisfied_in schema t = unsatisfied_form schema t.0 t.1.form
 

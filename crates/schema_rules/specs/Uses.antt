@@ -18,9 +18,11 @@ use Rattle.schema_rules.specs.TypeRefs.{named_type}
 abbrev pub Judgement : Type 0
 Judgement = Role → List ℕ → ℕ → Option ℕ
 
+-- a type as it is written: what is judged is the name under all lists, at its line
 abbrev pub at_type : Judgement → Role → TypeNode → Option ℕ
 at_type judged role t = judged role (named_type t.type_ref) t.place.row
 
+-- a name that stands by itself, at its line
 abbrev pub at_name : Judgement → Role → Mark → Option ℕ
 at_name judged role m = judged role m.0 m.1
 
@@ -36,6 +38,7 @@ at_field judged field = earlier (at_type judged role.Output field.1.field_type) 
 abbrev pub at_parts : Judgement → Interfaced → Option ℕ
 at_parts judged parts = earlier (least_by (at_name judged role.Interface) parts.interfaces) (least_by (at_field judged) parts.fields)
 
+-- all that a type of this form names; scalars and enums name no types
 abbrev pub at_form : Judgement → TypeForm → Option ℕ
 at_form judged form.Scalar = None
 at_form judged (form.Object parts) = at_parts judged parts
@@ -44,9 +47,11 @@ at_form judged (form.Union members) = least_by (at_name judged role.Member) memb
 at_form judged (form.Enum values) = None
 at_form judged (form.Input fields) = least_by (at_input judged) fields
 
+-- the same of a type with its name
 abbrev pub at_named : Judgement → NamedType → Option ℕ
 at_named judged t = at_form judged t.1.form
 
+-- the arguments of a directive
 abbrev pub at_directive : Judgement → List ℕ × SchemaDirective → Option ℕ
 at_directive judged d = least_by (at_input judged) d.1.arguments
 

@@ -1,4 +1,4 @@
-//! What makes a schema invalid: the grounds that are said of whole schemas, S5 to S9, each as the least
+//! What makes a schema invalid: grounds that are said of whole schemas, S5 to S8, each as the least
 //! line at which it is broken. It stands on the schemas of `schema_model`.
 //!
 //! Each ground has one definition, which may assume that the ones before it aren't broken, and one

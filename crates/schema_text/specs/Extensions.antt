@@ -24,6 +24,7 @@ has_no_token text = ends (tokens_of text)
 abbrev pub is_whole : List ℕ → Bool
 is_whole text = has_no_token text || (not (nests_too_deep text) && is_ok (document_of text))
 
+-- the first token of the text is the name `extend`
 abbrev pub begins_with_extend : List ℕ → Bool
 begins_with_extend text = starts (word (codes "extend")) (tokens_of text)
 

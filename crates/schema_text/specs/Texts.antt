@@ -26,6 +26,7 @@ executable_line (definition.TypeSystem d) = None
 abbrev pub first_executable : List Definition → Option ℕ
 first_executable ds = fold (λ first d. option_or first (executable_line d)) None ds
 
+-- the type system definition that a definition is, its description aside; an operation and a fragment give none
 abbrev pub form_in : Definition → List TypeSystemForm
 form_in (definition.TypeSystem d) = d.form ∷ []
 form_in _ = []
@@ -34,6 +35,7 @@ form_in _ = []
 abbrev pub forms_in : List Definition → List TypeSystemForm
 forms_in ds = flat_map form_in ds
 
+-- the type system definitions among these, or no schema if a line is given, on which an executable definition stands
 abbrev pub all_forms : List Definition → Option ℕ → Result (List TypeSystemForm) Flaw
 all_forms ds None = Ok (forms_in ds)
 all_forms ds (Some line) = Err (flaw.NotASchema line)
@@ -42,6 +44,7 @@ all_forms ds (Some line) = Err (flaw.NotASchema line)
 abbrev pub flaw_at : List ℕ → Place → Flaw
 flaw_at text place = cond (extends_at text place) (flaw.Extends place.row) (flaw.NotASchema place.row)
 
+-- what the document of a text holds, or the flaw where the text is none or an executable definition stands in it
 abbrev pub forms_of_document : List ℕ → Result Document Place → Result (List TypeSystemForm) Flaw
 forms_of_document text (Ok document) = all_forms document.definitions (first_executable document.definitions)
 forms_of_document text (Err place) = Err (flaw_at text place)

@@ -31,7 +31,8 @@ abbrev pub mutations : {D : Type 0} → (D → Kind) → List D → List ℕ
 mutations kind [] = []
 mutations kind (d ∷ ds) = mutation_of (kind d) ++ mutations kind ds
 
--- a result may go up for the id i behind an operation: for the id that it sends, and else where one could before, but not for the id that it tears down
+-- a result may go up for the id i behind an operation: for the id that it sends, and else where one could before, but
+-- not for the id that it tears down
 abbrev pub MayAwait : Kind → Type 0 → ℕ → Type 0
 MayAwait (Query j) could i = could ⊎ (i ≡ j)
 MayAwait (Mutation j) could i = could ⊎ (i ≡ j)
@@ -59,10 +60,11 @@ pub record Answered {D U C : Type 0} (kind : D → Kind) (id : U → ℕ) (befor
 abbrev pub Onto : {A : Type 0} → (List A → Type 0) → List A → List A → Type 0
 Onto {A} P there all = (given : List A) × (all ≡ there ++ given) × P given
 
--- the same two, where what was given stands behind what was there
+-- what an exchange makes of an operation, where what was given stands behind what was there
 abbrev pub OperatedOnto : {D U C : Type 0} → (D → Kind) → (ℕ → Type 0) → (ℕ → Type 0) → D → List (Flow D U C) → List (Flow D U C) → Type 0
 OperatedOnto {D} {U} {C} kind before after op there then = (given : List (Flow D U C)) × (then ≡ there ++ given) × Operated kind before after op given
 
+-- what an exchange makes of a result, where what was given stands behind what was there
 abbrev pub AnsweredOnto : {D U C : Type 0} → (D → Kind) → (U → ℕ) → (ℕ → Type 0) → (ℕ → Type 0) → List (Flow D U C) → List (Flow D U C) → Type 0
 AnsweredOnto {D} {U} {C} kind id before after there then = (given : List (Flow D U C)) × (then ≡ there ++ given) × Answered kind id before after given
 
@@ -77,8 +79,10 @@ pub record PassedUp {D U C : Type 0} (kind : D → Kind) (id : U → ℕ) (befor
   pub mutated : mutations kind (downs given) ≡ mutations kind (downs from)
   pub awaits : (i : ℕ) → after i → before i
 
+-- `from` passed down through a part below, where what was given stands behind what was there
 abbrev pub PassedDownOnto : {D U C : Type 0} → (D → Kind) → List (Flow D U C) → List (Flow D U C) → List (Flow D U C) → Type 0
 PassedDownOnto {D} {U} {C} kind from there then = (given : List (Flow D U C)) × (then ≡ there ++ given) × PassedDown kind from given
 
+-- `from` passed up through a part above, where what was given stands behind what was there
 abbrev pub PassedUpOnto : {D U C : Type 0} → (D → Kind) → (U → ℕ) → (ℕ → Type 0) → (ℕ → Type 0) → List (Flow D U C) → List (Flow D U C) → List (Flow D U C) → Type 0
 PassedUpOnto {D} {U} {C} kind id before after from there then = (given : List (Flow D U C)) × (then ≡ there ++ given) × PassedUp kind id before after from given

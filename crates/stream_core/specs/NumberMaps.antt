@@ -8,10 +8,11 @@ use Rattle.std.specs.BTreeMap.{is_at}
 use Rattle.std.specs.Map.{lookup}
 use Rattle.std.specs.FinMap as map
 
--- entries in order of keys, and what a look-up finds among them
+-- entries in order of keys
 abbrev pub Entries : Type 0 → Type 0
 Entries V = List (ℕ × V)
 
+-- the value of the first entry with this key, where there is one
 abbrev pub found : {V : Type 0} → Entries V → ℕ → Option V
 found es k = lookup (is_at (nat_cmp k)) es
 

@@ -1,4 +1,4 @@
--- Which of the three rules on the uses of variables are broken.
+-- Which of the three rules on the uses of variables are broken (GraphQL October 2021, 5.8.3 to 5.8.5).
 use Rattle.std.specs.Prelude.{ℕ, false, List, ◌||◌}
 use Rattle.std.specs.List.{list_any}
 use Rattle.gql_model.specs.declared.document.Definition.{Definition}
@@ -31,9 +31,11 @@ faults_of schema document = record {
   disallowed = breaks_variable_usages_allowed schema document;
 }
 
+-- none of the three rules is broken
 abbrev pub none : UseFaults
 none = record { undeclared = false; unused = false; disallowed = false }
 
+-- what one breaks and what the other breaks, put together
 abbrev pub either : UseFaults → UseFaults → UseFaults
 either a b = record {
   undeclared = a.undeclared || b.undeclared;

@@ -11,9 +11,11 @@ use Rattle.check_model.specs.Usages as usages
 use Rattle.check_model.specs.Usages.{At}
 use Rattle.variable_rules.specs.declared.wanted.Wanted.{Wanted}
 
+-- what is wanted at a place: the type that the code points to, and whether there is a default in its place
 abbrev pub place_of : Wanted → usages.Wanted
 place_of w = record { type = w.wanted.now; has_default = w.has_default }
 
+-- the same of a place where perhaps nothing is wanted
 abbrev pub at_of : Option Wanted → At
 at_of at = option_map place_of at
 

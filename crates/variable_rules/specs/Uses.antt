@@ -11,6 +11,7 @@ use Rattle.check_model.specs.Usages.{At, Usage, site_usages}
 use Rattle.check_model.specs.VariableRules.{variable_named, may_stand_for}
 use Rattle.variable_rules.specs.declared.uses.Uses.{Uses}
 
+-- the use of the variable of a name, at a place where this is wanted
 abbrev pub usage : List ℕ → At → Usage
 usage name at = record { name = name; at = at }
 

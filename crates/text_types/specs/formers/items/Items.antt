@@ -19,30 +19,38 @@ use Rattle.text_types.specs.declared.items.Items.TheView.{view, invariant}
 use Rattle.text_types.specs.contracts.items.Items as C
 use Rattle.text_types.specs.contracts.items.Items.TheInside as I
 
+-- `Items` of what has the shape `g` around a type: a list of it, which holds that type wherever an item does
 abbrev pub the_former : Former {0} → Former {0}
 the_former g = list g
 
+-- the largest measure among the values that the items of a list hold, where `g` has one for each item
 abbrev pub the_weighed : {g : Former {0}} → Weighed g → Weighed (the_former g)
 the_weighed w = w_list w
 
+-- the list that holds no value, so that a type that holds lists of itself has a value at all
 pub the_empty : List ⊥
 the_empty = []
 
+-- the values that a list holds are its items, in order
 abbrev pub the_items : (X : Type 0) → List X → List X
 the_items X d = d
 
+-- the values that the shape lays in a row are the items, in their order
 pub the_items_listed : (X : Type 0) (d : List X) → listed _ (children (the_former this) X d) ≡ the_items X d
 the_items_listed X d = list-listed X d
 
+-- the shape of the struct itself: its one field, a `Vec`, holds the values
 abbrev fields : Former {0}
 fields = via (vec.the_former this Global) Inside (λ X a. a.items) (λ X v. record { items = v }) (λ X a. refl) (λ X v. refl)
 
 module _ (R S : RattleType) (h : R.Denot → S.Denot) where
+  -- over types that lie alike in memory, and own and lend alike, lists that correspond do so too
   pub the_places : Alike R S h → Alike (C.the_row R) (C.the_row S) ((the_former this).map R.Denot S.Denot h)
   the_places a = view_places fields (list this) view (λ X Y k u. refl) (λ X u. refl) R.Denot S.Denot h (C.the_row R).coded (C.the_row S).coded
       (invariant R.Denot) (invariant S.Denot) (λ u p q. refl) (λ u p q. refl) (λ u e. tt) (λ u e. tt)
       (over (I.the_row R)) (over (I.the_row S))
       (struct_places (I.the_type R) (I.the_type S) (vec.mapped h, tt) _ (λ d. refl) refl (laid _ _ _ (vec.the_places heap.the_row ghosts R S h a), tt))
 
+  -- over two types with the same codes, lists that correspond have the same code
   pub the_codes_placed : Recodes R S h → Recodes (C.the_row R) (C.the_row S) ((the_former this).map R.Denot S.Denot h)
   the_codes_placed e d = sym (code_map R.coded.code S.coded.code h (λ x. sym (e x)) d)
