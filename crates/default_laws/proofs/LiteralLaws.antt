@@ -9,8 +9,9 @@ use Rattle.gql_model.specs.declared.literal.LiteralValue.{LiteralValue, roll-Lit
 use Rattle.gql_model.specs.declared.literal.ObjectField.{ObjectField, out-ObjectField}
 use Rattle.gql_model.specs.declared.literal.LiteralValue.TheOpen.{Literal-F, LiteralValue-F, ObjectField-F}
 use Rattle.gql_model.specs.declared.literal.LiteralValue.TheViews.{out-roll-ObjectField}
-use Rattle.gql_model.specs.declared.literal.LiteralValue.TheFolds.{fold-roll-Literal, fold-roll-LiteralValue, fold_out-ObjectField, map-LiteralValue, ind-Literal}
+use Rattle.gql_model.specs.declared.literal.LiteralValue.TheFolds.{fold-roll-Literal, fold-roll-LiteralValue, fold_out-ObjectField, map-LiteralValue}
 use Rattle.gql_model.specs.declared.type_ref.TypeRef.{out-TypeRef}
+use Rattle.gql_model.proofs.Literals.{Level, OfParts, literal_induction}
 use Rattle.schema_model.specs.declared.schema.Schema.{Schema}
 use Rattle.schema_model.specs.declared.schema.InputValue.{InputValue}
 use Rattle.schema_rules.specs.TypeRefs.{named_type, is_non_null}
@@ -119,14 +120,6 @@ module _ (P : ℕ → Type 0) (one other : Defaults) (schema : Schema) (firsts :
       → IsSteady P (object_at one schema ms) (object_at other schema ns) (λ type. object_fills schema firsts gs (named_type type))
   object_level ms ns gs rows first second third steady = rw (first, second, third) (object_steady P one other schema firsts rows alike steady)
 
-  abbrev Parts : LiteralValue-F LiteralValue Literal ObjectField → Type 0
-  Parts (LiteralValue-F.List items) = AllByRecursion OfLiteral items
-  Parts (LiteralValue-F.Object fields) = AllByRecursion OfField fields
-  Parts _ = Unit {0}
-
-  abbrev Level : Type 0
-  Level = LiteralValue-F LiteralValue Literal ObjectField
-
   abbrev one_level : Level → Meaning
   one_level x = meanings.value_step one schema [] (map-LiteralValue LiteralValue Literal ObjectField Meaning Meaning MemberMeaning (value_meaning one schema []) (literal_meaning one schema []) (object_field_meaning one schema []) x)
 
@@ -139,7 +132,7 @@ module _ (P : ℕ → Type 0) (one other : Defaults) (schema : Schema) (firsts :
   abbrev constant_level : Level → Bool
   constant_level x = constant_in_value (map-LiteralValue LiteralValue Literal ObjectField Bool Bool Bool is_constant_value is_constant is_constant_field x)
 
-  level_steady : (x : Level) → Parts x → constant_level x ≡ true → IsSteady P (one_level x) (other_level x) (fills_level x)
+  level_steady : (x : Level) → OfParts OfLiteral OfField x → constant_level x ≡ true → IsSteady P (one_level x) (other_level x) (fills_level x)
   level_steady (LiteralValue-F.Variable name) parts constants = absurd (false≢true constants)
   level_steady (LiteralValue-F.Integer text number) parts constants = record { free = refl; typed = λ type all. refl; there = λ wanted e. as_given_there (integer_at schema number wanted) e }
   level_steady (LiteralValue-F.String text) parts constants = record { free = refl; typed = λ type all. refl; there = λ wanted e. as_given_there (string_at schema text wanted) e }
@@ -158,7 +151,7 @@ module _ (P : ℕ → Type 0) (one other : Defaults) (schema : Schema) (firsts :
   steady_by : (m m' n n' : Meaning) (g h : Filling) → m ≡ n → m' ≡ n' → g ≡ h → IsSteady P n n' h → IsSteady P m m' g
   steady_by m m' n n' g h first second third steady = rw (first, second, third) steady
 
-  value_steady : (x : Level) → Parts x → OfValue (roll-LiteralValue x)
+  value_steady : (x : Level) → OfParts OfLiteral OfField x → OfValue (roll-LiteralValue x)
   value_steady x parts constants =
       steady_by _ _ (one_level x) (other_level x) _ (fills_level x)
       (fold-roll-LiteralValue Meaning Meaning MemberMeaning (meanings.value_step one schema []) meanings.literal_step meanings.field_step x)
@@ -176,39 +169,9 @@ module _ (P : ℕ → Type 0) (one other : Defaults) (schema : Schema) (firsts :
 
   -- ---- all levels
 
-  abbrev WithValue : Type 0
-  WithValue = (v : LiteralValue) × OfValue v
-
-  abbrev WithLiteral : Type 0
-  WithLiteral = (l : Literal) × OfLiteral l
-
-  abbrev WithField : Type 0
-  WithField = (f : ObjectField) × OfField f
-
-  each_literal : (es : List WithLiteral) → AllByRecursion OfLiteral (map (λ (e : WithLiteral). e.0) es)
-  each_literal [] = tt
-  each_literal (e ∷ es) = (e.1, each_literal es)
-
-  each_field : (es : List WithField) → AllByRecursion OfField (map (λ (e : WithField). e.0) es)
-  each_field [] = tt
-  each_field (e ∷ es) = (e.1, each_field es)
-
-  parts_of : (y : LiteralValue-F WithValue WithLiteral WithField)
-      → Parts (map-LiteralValue WithValue WithLiteral WithField LiteralValue Literal ObjectField (λ (e : WithValue). e.0) (λ (e : WithLiteral). e.0) (λ (e : WithField). e.0) y)
-  parts_of (LiteralValue-F.Variable name) = tt
-  parts_of (LiteralValue-F.Integer text number) = tt
-  parts_of (LiteralValue-F.String text) = tt
-  parts_of (LiteralValue-F.Boolean b) = tt
-  parts_of LiteralValue-F.Null = tt
-  parts_of (LiteralValue-F.Enum word) = tt
-  parts_of (LiteralValue-F.List items) = each_literal items
-  parts_of (LiteralValue-F.Object fields) = each_field fields
-
   pub literal_steady : (l : Literal) → OfLiteral l
-  literal_steady = ind-Literal OfValue OfLiteral OfField
-      (λ x y is. value_steady x (subst Parts is (parts_of y)))
-      (λ x y is. literal_as_value x (subst (λ (z : Literal-F LiteralValue Literal ObjectField). OfValue z.value) is y.value.1))
-      (λ x y is. subst (λ (z : ObjectField-F LiteralValue Literal ObjectField). OfLiteral z.value) (is ∙ sym (out-roll-ObjectField x)) y.value.1)
+  literal_steady = literal_induction OfValue OfLiteral OfField value_steady literal_as_value
+      (λ x claim. subst (λ (z : ObjectField-F LiteralValue Literal ObjectField). OfLiteral z.value) (sym (out-roll-ObjectField x)) claim)
 
   constant_steady : (input : InputValue) (default : Option Literal) → is_constant_default default ≡ true
       → AllByRecursion P (option_map_or (λ l. literal_fills schema firsts l input.input_type.type_ref) default [])

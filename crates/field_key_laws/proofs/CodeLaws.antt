@@ -4,7 +4,7 @@ use Rattle.std.specs.Char.{digit_char}
 use Rattle.std.proofs.lemmas.Bool.{and_parts, cases_lt, cases_eq}
 use Rattle.std.proofs.lemmas.Bool.Decides.{nat_tests}
 use Rattle.gql_value.specs.Text.{escaped_byte, quoted}
-use Rattle.field_key_laws.proofs.Cuts.{heads, tails, conses}
+use Rattle.entity_keys.proofs.Splits.{heads, tails, conses}
 
 -- the number of a hexadecimal digit
 abbrev digit_of : ℕ → ℕ

@@ -8,7 +8,7 @@ use Rattle.gql_value.specs.declared.value.Value.TheVariants.{Obj}
 use Rattle.gql_value.specs.Sorted.{sorted_text_of}
 use Rattle.cache_model.specs.Keys.{is_name_start, is_digit, IsName, field_text}
 use Rattle.entity_keys.specs.Fields.{field_key_text}
-use Rattle.field_key_laws.proofs.Cuts.{Lacks, no_split, split_first, split_last}
+use Rattle.entity_keys.proofs.Splits.{Lacks, no_split, split_first, split_last}
 use Rattle.field_key_laws.specs.Laws.{AreWrittenAlike}
 use Rattle.field_key_laws.specs.Values.{sorted_value, has_numbers}
 use Rattle.field_key_laws.proofs.SortedLaws.{sorted_texts_by_values, sorted_texts_of_values, none_and_some}

@@ -1,4 +1,3 @@
-mod Cuts
 mod CodeLaws
 mod TextLaws
 mod SortedLaws

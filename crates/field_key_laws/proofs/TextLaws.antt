@@ -11,7 +11,7 @@ use Rattle.gql_value.specs.declared.value.Value.TheViews.{roll-Value}
 use Rattle.gql_value.specs.declared.value.Value.TheFolds.{fold-roll-Value, map-Value, ind-Value}
 use Rattle.gql_value.specs.Text.{quoted, joined, list_text, member_text, object_text, text_step, text_of}
 use Rattle.field_key_laws.specs.Values.{numbers_at, has_numbers}
-use Rattle.field_key_laws.proofs.Cuts.{heads, tails, conses}
+use Rattle.entity_keys.proofs.Splits.{heads, tails, conses}
 use Rattle.field_key_laws.proofs.CodeLaws.{quoted_same}
 
 -- ---- where texts end

@@ -82,7 +82,8 @@ impl FragmentIndex {
     }
 }
 
-fn fragment_at(definitions: &[Definition], place: usize) -> Option<&Fragment>
+/// The fragment that stands at a place among the definitions of a document.
+pub fn fragment_at(definitions: &[Definition], place: usize) -> Option<&Fragment>
     ensures { option_copied result ≡ option_and_then as_fragment (slice_get definitions.now place) }
 {
     match definitions.get(place) {

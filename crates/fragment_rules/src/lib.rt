@@ -15,7 +15,7 @@ mod sizes;
 mod spreads;
 
 pub use definitions::{breaks_executable_definitions, breaks_lone_anonymous_operation};
-pub use fragments::FragmentIndex;
+pub use fragments::{FragmentIndex, fragment_at};
 pub use introspection::is_introspection;
 pub use names::{breaks_fragment_name_uniqueness, breaks_operation_name_uniqueness};
 pub use operations::chosen;

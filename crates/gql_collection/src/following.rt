@@ -1,7 +1,5 @@
 ghost use Rattle.std.specs.Prelude.{◌≡◌, IfOk, slice_get};
-ghost use Rattle.std.specs.Option.{option_copied, option_and_then};
 ghost use Rattle.gql_model.specs.declared.selection.Selection.{out-Selection};
-ghost use Rattle.check_model.specs.Executables.{as_fragment};
 ghost use Rattle.check_model.specs.RootFields as roots;
 ghost use Rattle.execution_model.specs.Collection as spec;
 ghost use Rattle.gql_collection.specs.Keys.{HasDistinctKeys};
@@ -11,7 +9,8 @@ use crate::collector::Collector;
 use crate::conditions::is_passed_over;
 use crate::state::State;
 use execution_model::Group;
-use gql_model::{Definition, Directive, Fragment, Name, Selection, SelectionSet};
+use fragment_rules::fragment_at;
+use gql_model::{Directive, Name, Selection, SelectionSet};
 use gql_numbering::Mark;
 use std::alloc::Global;
 use text_types::{Items, Memory, Text};
@@ -205,7 +204,7 @@ impl<'a> Collector<'a> {
         requires { IsPrepared self.now }
         ensures { option_fragment result ≡ spec.fragment_at self.now.document.now place }
     {
-        match fragment_in(self.document.definitions.as_slice(), place) {
+        match fragment_at(self.document.definitions.as_slice(), place) {
             Some(fragment) => match self.numbering.definition(place) {
                 Some(mark) => Some((&fragment.type_condition.text, mark.sets)),
                 None => None,
@@ -238,32 +237,4 @@ fn mark_at(marks: &[Mark], at: usize) -> Option<Mark>
     ensures { result ≡ slice_get marks.now at }
 {
     marks.get(at).copied()
-}
-
-fn fragment_in(definitions: &[Definition], place: usize) -> Option<&Fragment>
-    ensures { option_copied result ≡ option_and_then as_fragment (slice_get definitions.now place) }
-{
-    match definitions.get(place) {
-        Some(definition) => as_fragment(definition),
-        None => None,
-    }
-}
-
-fn as_fragment(definition: &Definition) -> Option<&Fragment>
-    ensures { option_copied result ≡ as_fragment definition.now }
-{
-    match definition {
-        Definition::Fragment(fragment) => Some(fragment),
-        _ => None,
-    }
-}
-
-fn directives_of(selection: &Selection) -> &[Directive]
-    ensures { result.now ≡ spec.directives_of (out-Selection selection.now) }
-{
-    match selection {
-        Selection::Field(field) => field.directives.as_slice(),
-        Selection::Spread(spread) => spread.directives.as_slice(),
-        Selection::Inline(fragment) => fragment.directives.as_slice(),
-    }
 }

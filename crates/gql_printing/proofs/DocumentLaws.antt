@@ -9,16 +9,17 @@ use Rattle.gql_tokens.proofs.Choices.{choice}
 use Rattle.gql_spelling.specs.Spelling.{bare, StandApart, ArePrintable, spaced}
 use Rattle.gql_spelling.proofs.Lexing.{lexes_again}
 use Rattle.gql_spelling.proofs.Printable.{tokens_print}
+use Rattle.gql_model.specs.declared.document.Document.{Document}
 use Rattle.gql_model.specs.declared.document.Definition.{Definition}
 use Rattle.gql_model.specs.declared.document.Definition.TheVariants as definition
 use Rattle.gql_model.specs.declared.type_system.TypeSystemForm.{TypeSystemForm}
 use Rattle.gql_model.specs.declared.type_system.TypeSystemForm.TheVariants as form
 use Rattle.gql_model.specs.Sorts.{Sort, starts, mark}
-use Rattle.gql_model.specs.Documents.{of_operation, of_fragment, of_type_system, DefinitionRule, is_none_of, leaves_out_braces, takes_brace, goes_on_with, DefinitionsRule}
+use Rattle.gql_model.specs.Documents.{of_operation, of_fragment, of_type_system, DefinitionRule, is_none_of, leaves_out_braces, takes_brace, goes_on_with, DefinitionsRule, Derives, IsDocument}
 use Rattle.gql_printing.specs.Tokens.{Toks, optional}
 use Rattle.gql_printing.specs.TypeSystems.{description_tokens, form_tokens}
-use Rattle.gql_printing.specs.Documents.{definition_tokens, lets_short_form_follow, definitions_tokens, document_tokens}
-use Rattle.gql_printing.specs.Places.{bare_form, bare_definition}
+use Rattle.gql_printing.specs.Documents.{definition_tokens, lets_short_form_follow, definitions_tokens, document_tokens, canonical_text}
+use Rattle.gql_printing.specs.Places.{bare_form, bare_definition, without_places}
 use Rattle.gql_printing.specs.Laws.{CanonicalTextIsItsDocument}
 use Rattle.gql_printing.proofs.Joining.{joins_nil, joins_append}
 use Rattle.gql_printing.proofs.Again.{Again, Spells, bares, empty, single, cut, spelled_append, printable_left, printable_right, spells_as, spells_either}
@@ -134,18 +135,23 @@ none_left (d ∷ all) e = absurd cc
 end_token : Token
 end_token = end_at first_place
 
-pub canonical_again : CanonicalTextIsItsDocument
+-- what printable tokens derive is derived again by its canonical text, places aside
+pub written_again : (front : Toks) (document : Document) → Derives front document → ArePrintable front
+    → (again : Document) × IsDocument (canonical_text document) again × (without_places again ≡ without_places document)
 unfolding end_token
-canonical_again text document d =
+written_again front document d h =
     let all = document.definitions in
     let written = document_tokens document in
-    let h = spells_definitions true d.0 all d.4.1 (printable_left d.0 (d.1 ∷ []) (subst ArePrintable d.2 (tokens_print text))) in
-    let apart : StandApart written = subst StandApart (append-nil written) (h.joins [] tt tt).0 in
-    let lexed = lexes_again written h.spelled apart ∙ sym (map-append bare written (end_token ∷ [])) in
+    let a = spells_definitions true front all d.1 h in
+    let apart : StandApart written = subst StandApart (append-nil written) (a.joins [] tt tt).0 in
+    let lexed = lexes_again written a.spelled apart ∙ sym (map-append bare written (end_token ∷ [])) in
     let m = cut written (end_token ∷ []) (tokens_of (spaced written)) lexed in
     let one = single (kind.End, []) m.right m.second in
-    let x = h.again m.left m.first in (
+    let x = a.again m.left m.first in (
       record { definitions = x.0 },
-      (m.left, one.0, m.whole ∙ ap (λ (r : Toks). m.left ++ r) one.1, ap (λ (k : Kind × List ℕ). k.0) one.2, (λ e. d.4.0 (none_left all (sym x.2 ∙ ap (map bare_definition) e)), x.1)),
+      (m.left, one.0, m.whole ∙ ap (λ (r : Toks). m.left ++ r) one.1, ap (λ (k : Kind × List ℕ). k.0) one.2, (λ e. d.0 (none_left all (sym x.2 ∙ ap (map bare_definition) e)), x.1)),
       ap (λ (definitions : List Definition). record { definitions = definitions }) x.2,
     )
+
+pub canonical_again : CanonicalTextIsItsDocument
+canonical_again text document d = written_again d.0 document d.4 (printable_left d.0 (d.1 ∷ []) (subst ArePrintable d.2 (tokens_print text)))

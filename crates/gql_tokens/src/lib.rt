@@ -5,7 +5,7 @@
 //! is the first lexical fault or the end. [`Lexer`] is a cursor over that list and takes no memory;
 //! [`lex`] gives the spans of all its tokens, or the fault's place; [`nesting`] says how deep its
 //! brackets nest. [`name_text`], [`integer_text`], [`string_value`] and [`integer_value`] say what a token's text
-//! means. That tokens and ignored stretches make up the text is a law of [`laws`].
+//! means, and [`place_behind`] counts rows and columns. That tokens and ignored stretches make up the text is a law of [`laws`].
 #![tactic(auto)]
 
 mod block_values;
@@ -32,5 +32,6 @@ pub use lexer::Lexer;
 pub use lexing::lex;
 pub use names::name_text;
 pub use numbers::{integer_text, integer_value};
+pub use places::place_behind;
 pub use token::{Kind, Place, Token, Tokens};
 pub use values::string_value;

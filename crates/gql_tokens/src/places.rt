@@ -16,8 +16,9 @@ pub(crate) fn first() -> Place
     Place { row: 1, column: 1 }
 }
 
-/// The place behind a byte that stands at a place before this rest.
-fn behind(place: Place, byte: u8, rest: &[u8]) -> Place
+/// The place behind a byte that stands at a place before this rest: the next row behind the last byte of a
+/// line's end, the same place behind a byte within a character, and else the next column.
+pub fn place_behind(place: Place, byte: u8, rest: &[u8]) -> Place
     requires row { place.row < 2 ^ 64 - 1 }
     requires column { place.column < 2 ^ 64 - 1 }
     ensures { result ≡ place_behind place byte rest.now }
@@ -81,7 +82,7 @@ fn after_bytes(len: usize, start: Place, text: &[u8]) -> Place
         let Some((byte, more)) = rest.split_first() else {
             unreachable!()
         };
-        place = behind(place, *byte, more);
+        place = place_behind(place, *byte, more);
         rest = more;
     }
     place

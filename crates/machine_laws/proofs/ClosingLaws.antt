@@ -24,7 +24,8 @@ use Rattle.machine_model.specs.Runs.{AreRuns, with_command, commands_taken}
 use Rattle.machine_model.specs.Laws.{is_fetch_at, is_mutation_at, IsClosed, IsAlone}
 use Rattle.machine_laws.specs.Answers.{ends, IsAloneFor}
 use Rattle.machine_laws.specs.Closings.{is_pending, is_open, AreApart, IsApart, IsOpen, given_up}
-use Rattle.machine_laws.proofs.Numbers.{some_is, all_weaker, all_push, all_filter, all_both, all_passed, all_none, none_all, found_one, found_passes, found_alone, ascend_above, ascend_single, any_push, any_filter, any_mapped, differs, not_same}
+use Rattle.machine_model.proofs.Lists.{any_filter}
+use Rattle.machine_laws.proofs.Numbers.{some_is, all_weaker, all_push, all_filter, all_both, all_passed, all_none, none_all, found_one, found_passes, found_alone, ascend_above, ascend_single, any_push, any_mapped, differs, not_same}
 use Rattle.machine_laws.proofs.Walk.{Keeps, ended_with, without_number, without_ticket, kept_by_command}
 use Rattle.machine_laws.proofs.TicketLaws.{longer, same_ticket}
 use Rattle.machine_laws.proofs.RunLaws.{kept_by_runs}

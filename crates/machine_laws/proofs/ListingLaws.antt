@@ -21,7 +21,8 @@ use Rattle.cache_model.specs.History.{History, flattened, flattened_over}
 use Rattle.cache_model.specs.Listing.{Row, cell_of_rows, place_cmp, ListsMap}
 use Rattle.machine_model.specs.Operations.{Places}
 use Rattle.machine_model.specs.Inspection.{set_by, set_in, place_order, placed, in_order, row_at, cells_of}
-use Rattle.machine_laws.proofs.Numbers.{all_weaker, or_split}
+use Rattle.machine_model.proofs.Lists.{or_split}
+use Rattle.machine_laws.proofs.Numbers.{all_weaker}
 
 abbrev Place : Type 0
 Place = List ℕ × List ℕ

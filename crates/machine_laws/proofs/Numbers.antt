@@ -2,6 +2,7 @@
 use Rattle.std.proofs.Common.{◌≡◌, ◌≢◌, ℕ, suc, ◌<◌, ◌≤◌, ◌==◌, ◌||◌, Bool, true, false, not, cond, List, [], ◌∷◌, ◌++◌, map, filter, find, Option, Some, None, is_none, unwrap_or, refl, sym, ap, ◌∙◌, subst, arith, true-eqb, false-eqb, true≢false}
 use Rattle.std.proofs.lemmas.Bool.{eq-eqb}
 use Rattle.std.specs.List.{list_any, AllByRecursion}
+use Rattle.machine_model.proofs.Lists.{or_split, or_join, any_filter}
 use Rattle.machine_laws.specs.Tickets.{Ascend, AreSingle}
 
 pub all_weaker : {X : Type 0} (P Q : X → Type 0) → ((x : X) → P x → Q x) → (xs : List X) → AllByRecursion P xs → AllByRecursion Q xs
@@ -82,29 +83,11 @@ ascend_among number among test (x ∷ xs) low a =
     subst (Ascend number low) (sym (filter_cond among (test x) x (filter test xs)))
     (among_cond number low (test x) (among x) x (filter among xs) (filter among (filter test xs)) (ascend_among number among test xs) a)
 
-pub or_split : (a b : Bool) → (a || b) ≡ false → (a ≡ false) × (b ≡ false)
-or_split true b h = absurd (true≢false h)
-or_split false b h = (refl, h)
-
-pub or_join : (a b : Bool) → a ≡ false → b ≡ false → (a || b) ≡ false
-or_join true b x y = absurd (true≢false x)
-or_join false b x y = y
-
 pub any_push : {X : Type 0} (f : X → Bool) (xs : List X) (x : X) → list_any f xs ≡ false → f x ≡ false → list_any f (xs ++ x ∷ []) ≡ false
 any_push f [] x a b = or_join (f x) false b refl
 any_push f (y ∷ xs) x a b =
     let s = or_split (f y) (list_any f xs) a in
     or_join (f y) (list_any f (xs ++ x ∷ [])) s.0 (any_push f xs x s.1 b)
-
-any_cond : {X : Type 0} (f : X → Bool) (b : Bool) (x : X) (ys : List X) → f x ≡ false → list_any f ys ≡ false → list_any f (cond b (x ∷ ys) ys) ≡ false
-any_cond f true x ys a h = or_join (f x) (list_any f ys) a h
-any_cond f false x ys a h = h
-
-pub any_filter : {X : Type 0} (f test : X → Bool) (xs : List X) → list_any f xs ≡ false → list_any f (filter test xs) ≡ false
-any_filter f test [] a = refl
-any_filter f test (x ∷ xs) a =
-    let s = or_split (f x) (list_any f xs) a in
-    any_cond f (test x) x (filter test xs) s.0 (any_filter f test xs s.1)
 
 pub single_push : {X : Type 0} (number : X → ℕ) (xs : List X) (x : X) → AreSingle number xs → list_any (λ y. number y == number x) xs ≡ false → AreSingle number (xs ++ x ∷ [])
 single_push number [] x a b = (refl, tt)

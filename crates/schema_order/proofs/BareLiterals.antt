@@ -1,12 +1,13 @@
 -- What is said of a literal by a fold that ignores places is said of it without its places.
-use Rattle.std.proofs.Common.{◌≡◌, List, [], ◌∷◌, map, refl, sym, ap, ap₂, subst, ◌∙◌}
+use Rattle.std.proofs.Common.{◌≡◌, List, [], ◌∷◌, map, refl, sym, ap, ap₂, ◌∙◌}
 use Rattle.std.specs.List.{AllByRecursion}
 use Rattle.gql_tokens.specs.Places.{first_place}
 use Rattle.gql_model.specs.declared.literal.Literal.{Literal, roll-Literal}
 use Rattle.gql_model.specs.declared.literal.LiteralValue.{LiteralValue, roll-LiteralValue}
 use Rattle.gql_model.specs.declared.literal.ObjectField.{ObjectField, roll-ObjectField}
 use Rattle.gql_model.specs.declared.literal.LiteralValue.TheOpen.{Literal-F, LiteralValue-F, ObjectField-F}
-use Rattle.gql_model.specs.declared.literal.LiteralValue.TheFolds.{fold-Literal, fold-LiteralValue, fold-ObjectField, fold-roll-Literal, fold-roll-LiteralValue, fold-roll-ObjectField, map-LiteralValue, ind-Literal}
+use Rattle.gql_model.specs.declared.literal.LiteralValue.TheFolds.{fold-Literal, fold-LiteralValue, fold-ObjectField, fold-roll-Literal, fold-roll-LiteralValue, fold-roll-ObjectField, map-LiteralValue}
+use Rattle.gql_model.proofs.Literals.{Level, OfParts, literal_induction}
 use Rattle.gql_printing.specs.Places as places
 use Rattle.gql_printing.specs.Places.{bare_name, bare_literal, bare_value, bare_object_field}
 
@@ -31,14 +32,6 @@ module _ (V L F : Type 0) (vs : LiteralValue-F V L F → V) (ls : Literal-F V L 
   abbrev OfField : ObjectField → Type 0
   OfField f = of_field (bare_object_field f) ≡ of_field f
 
-  abbrev Level : Type 0
-  Level = LiteralValue-F LiteralValue Literal ObjectField
-
-  abbrev Parts : Level → Type 0
-  Parts (LiteralValue-F.List items) = AllByRecursion OfLiteral items
-  Parts (LiteralValue-F.Object fields) = AllByRecursion OfField fields
-  Parts _ = Unit {0}
-
   abbrev bared : Level → Level
   bared x = map-LiteralValue LiteralValue Literal ObjectField LiteralValue Literal ObjectField bare_value bare_literal bare_object_field x
 
@@ -53,7 +46,7 @@ module _ (V L F : Type 0) (vs : LiteralValue-F V L F → V) (ls : Literal-F V L 
   fields_bare [] all = refl
   fields_bare (f ∷ fields) all = ap₂ (λ (x : F) (xs : List F). x ∷ xs) all.0 (fields_bare fields all.1)
 
-  level_bare : (x : Level) → Parts x → told (bared x) ≡ told x
+  level_bare : (x : Level) → OfParts OfLiteral OfField x → told (bared x) ≡ told x
   level_bare (LiteralValue-F.Variable name) parts = refl
   level_bare (LiteralValue-F.Integer text n) parts = refl
   level_bare (LiteralValue-F.String text) parts = refl
@@ -63,7 +56,7 @@ module _ (V L F : Type 0) (vs : LiteralValue-F V L F → V) (ls : Literal-F V L 
   level_bare (LiteralValue-F.List items) parts = ap (λ (xs : List L). LiteralValue-F.List xs) (items_bare items parts)
   level_bare (LiteralValue-F.Object fields) parts = ap (λ (xs : List F). LiteralValue-F.Object xs) (fields_bare fields parts)
 
-  value_bare : (x : Level) → Parts x → OfValue (roll-LiteralValue x)
+  value_bare : (x : Level) → OfParts OfLiteral OfField x → OfValue (roll-LiteralValue x)
   value_bare x parts =
       ap of_value (fold-roll-LiteralValue LiteralValue Literal ObjectField places.value_step places.literal_step places.object_field_step x)
       ∙ fold-roll-LiteralValue V L F vs ls fs (bared x)
@@ -86,39 +79,8 @@ module _ (V L F : Type 0) (vs : LiteralValue-F V L F → V) (ls : Literal-F V L 
       ∙ no_name (record { name = x.name; value = of_literal x.value })
       ∙ sym (fold-roll-ObjectField V L F vs ls fs x)
 
-  abbrev WithValue : Type 0
-  WithValue = (v : LiteralValue) × OfValue v
-
-  abbrev WithLiteral : Type 0
-  WithLiteral = (l : Literal) × OfLiteral l
-
-  abbrev WithField : Type 0
-  WithField = (f : ObjectField) × OfField f
-
-  each_literal : (es : List WithLiteral) → AllByRecursion OfLiteral (map (λ (e : WithLiteral). e.0) es)
-  each_literal [] = tt
-  each_literal (e ∷ es) = (e.1, each_literal es)
-
-  each_field : (es : List WithField) → AllByRecursion OfField (map (λ (e : WithField). e.0) es)
-  each_field [] = tt
-  each_field (e ∷ es) = (e.1, each_field es)
-
-  parts_of : (y : LiteralValue-F WithValue WithLiteral WithField)
-      → Parts (map-LiteralValue WithValue WithLiteral WithField LiteralValue Literal ObjectField (λ (e : WithValue). e.0) (λ (e : WithLiteral). e.0) (λ (e : WithField). e.0) y)
-  parts_of (LiteralValue-F.Variable name) = tt
-  parts_of (LiteralValue-F.Integer text n) = tt
-  parts_of (LiteralValue-F.String text) = tt
-  parts_of (LiteralValue-F.Boolean v) = tt
-  parts_of LiteralValue-F.Null = tt
-  parts_of (LiteralValue-F.Enum word) = tt
-  parts_of (LiteralValue-F.List items) = each_literal items
-  parts_of (LiteralValue-F.Object fields) = each_field fields
-
   pub fold_bare : (l : Literal) → OfLiteral l
-  fold_bare = ind-Literal OfValue OfLiteral OfField
-      (λ x y is. value_bare x (subst Parts is (parts_of y)))
-      (λ x y is. literal_of_value x (subst (λ (z : Literal-F LiteralValue Literal ObjectField). OfValue z.value) is y.value.1))
-      (λ x y is. field_of_literal x (subst (λ (z : ObjectField-F LiteralValue Literal ObjectField). OfLiteral z.value) is y.value.1))
+  fold_bare = literal_induction OfValue OfLiteral OfField value_bare literal_of_value field_of_literal
 
 -- places are taken away once
 pub bare_again : (l : Literal) → bare_literal (bare_literal l) ≡ bare_literal l

@@ -1,5 +1,5 @@
 -- Defaults that have themselves filled in, in another order.
-use Rattle.std.proofs.Common.{◌≡◌, ℕ, suc, ◌+◌, ◌≤◌, ◌<◌, Bool, true, false, cond, List, [], ◌∷◌, ◌++◌, map, length, get_or, slice_get, refl, sym, ap, subst, ◌∙◌, ⊎_elim, arith, Option, Some, None, is_some, unwrap_or}
+use Rattle.std.proofs.Common.{◌≡◌, ℕ, suc, ◌+◌, ◌≤◌, ◌<◌, Bool, true, false, cond, List, [], ◌∷◌, ◌++◌, map, length, get_or, slice_get, refl, sym, ap, ◌∙◌, ⊎_elim, arith, Option, Some, None, is_some, unwrap_or}
 use Rattle.std.specs.List.{AllByRecursion, flat_map}
 use Rattle.std.specs.Option.{option_map_or}
 use Rattle.std.proofs.lemmas.Bool.{false≢true}
@@ -7,9 +7,10 @@ use Rattle.gql_model.specs.declared.literal.Literal.{Literal, roll-Literal}
 use Rattle.gql_model.specs.declared.literal.LiteralValue.{LiteralValue, roll-LiteralValue}
 use Rattle.gql_model.specs.declared.literal.ObjectField.{ObjectField, roll-ObjectField}
 use Rattle.gql_model.specs.declared.literal.LiteralValue.TheOpen.{Literal-F, LiteralValue-F, ObjectField-F}
-use Rattle.gql_model.specs.declared.literal.LiteralValue.TheFolds.{fold-roll-Literal, fold-roll-LiteralValue, fold-roll-ObjectField, map-LiteralValue, ind-Literal}
+use Rattle.gql_model.specs.declared.literal.LiteralValue.TheFolds.{fold-roll-Literal, fold-roll-LiteralValue, fold-roll-ObjectField, map-LiteralValue}
 use Rattle.gql_model.specs.declared.type_ref.TypeRef.{TypeRef, out-TypeRef}
 use Rattle.gql_model.specs.declared.type_ref.TypeRef.TheOpen.{TypeRef-F}
+use Rattle.gql_model.proofs.Literals.{Level, OfParts, literal_induction}
 use Rattle.schema_model.specs.declared.schema.Schema.{Schema}
 use Rattle.schema_model.specs.declared.schema.SchemaType.{SchemaType}
 use Rattle.schema_model.specs.declared.schema.InputValue.{InputValue}
@@ -191,21 +192,13 @@ module _ (a b : Schema) (found : (name : List ℕ) → entry a.types name ≡ en
       (place_moved k.0 at.pair at.there fields all))
       (cases (place_of a.types name))
 
-  abbrev Level : Type 0
-  Level = LiteralValue-F LiteralValue Literal ObjectField
-
-  abbrev Parts : Level → Type 0
-  Parts (LiteralValue-F.List items) = AllByRecursion OfLiteral items
-  Parts (LiteralValue-F.Object fields) = AllByRecursion OfField fields
-  Parts _ = Unit {0}
-
   abbrev one_level : Level → Filling
   one_level x = value_step a ones (map-LiteralValue LiteralValue Literal ObjectField Filling Filling FieldFilling (value_fills a ones) (literal_fills a ones) (object_field_fills a ones) x)
 
   abbrev other_level : Level → Filling
   other_level x = value_step b others (map-LiteralValue LiteralValue Literal ObjectField Filling Filling FieldFilling (value_fills b others) (literal_fills b others) (object_field_fills b others) x)
 
-  level_moved : (x : Level) → Parts x → Moves (one_level x) (other_level x)
+  level_moved : (x : Level) → OfParts OfLiteral OfField x → Moves (one_level x) (other_level x)
   level_moved (LiteralValue-F.Variable name) parts t = has_none []
   level_moved (LiteralValue-F.Integer text n) parts t = has_none []
   level_moved (LiteralValue-F.String text) parts t = has_none []
@@ -215,7 +208,7 @@ module _ (a b : Schema) (found : (name : List ℕ) → entry a.types name ≡ en
   level_moved (LiteralValue-F.List items) parts t = list_moved items parts (out-TypeRef t)
   level_moved (LiteralValue-F.Object fields) parts t = object_moved fields parts (named_type t)
 
-  value_moved : (x : Level) → Parts x → OfValue (roll-LiteralValue x)
+  value_moved : (x : Level) → OfParts OfLiteral OfField x → OfValue (roll-LiteralValue x)
   value_moved x parts t =
       has_by _ (one_level x t) _ (other_level x t)
       (ap (λ (f : Filling). f t) (fold-roll-LiteralValue Filling Filling FieldFilling (value_step a ones) literal_step field_step x))
@@ -240,40 +233,9 @@ module _ (a b : Schema) (found : (name : List ℕ) → entry a.types name ≡ en
             (ap (λ (f : FieldFilling). f.1 t) one) (ap (λ (f : FieldFilling). f.1 t) other) (claim t),
       )
 
-  abbrev WithValue : Type 0
-  WithValue = (v : LiteralValue) × OfValue v
-
-  abbrev WithLiteral : Type 0
-  WithLiteral = (l : Literal) × OfLiteral l
-
-  abbrev WithField : Type 0
-  WithField = (f : ObjectField) × OfField f
-
-  each_literal : (es : List WithLiteral) → AllByRecursion OfLiteral (map (λ (e : WithLiteral). e.0) es)
-  each_literal [] = tt
-  each_literal (e ∷ es) = (e.1, each_literal es)
-
-  each_field : (es : List WithField) → AllByRecursion OfField (map (λ (e : WithField). e.0) es)
-  each_field [] = tt
-  each_field (e ∷ es) = (e.1, each_field es)
-
-  parts_of : (y : LiteralValue-F WithValue WithLiteral WithField)
-      → Parts (map-LiteralValue WithValue WithLiteral WithField LiteralValue Literal ObjectField (λ (e : WithValue). e.0) (λ (e : WithLiteral). e.0) (λ (e : WithField). e.0) y)
-  parts_of (LiteralValue-F.Variable name) = tt
-  parts_of (LiteralValue-F.Integer text n) = tt
-  parts_of (LiteralValue-F.String text) = tt
-  parts_of (LiteralValue-F.Boolean v) = tt
-  parts_of LiteralValue-F.Null = tt
-  parts_of (LiteralValue-F.Enum word) = tt
-  parts_of (LiteralValue-F.List items) = each_literal items
-  parts_of (LiteralValue-F.Object fields) = each_field fields
-
   -- what a literal has filled in has its own number in the other schema, and is filled in there
   literal_moved : (l : Literal) → OfLiteral l
-  literal_moved = ind-Literal OfValue OfLiteral OfField
-      (λ x y is. value_moved x (subst Parts is (parts_of y)))
-      (λ x y is. literal_as_value x (subst (λ (z : Literal-F LiteralValue Literal ObjectField). OfValue z.value) is y.value.1))
-      (λ x y is. field_as_literal x (subst (λ (z : ObjectField-F LiteralValue Literal ObjectField). OfLiteral z.value) is y.value.1))
+  literal_moved = literal_induction OfValue OfLiteral OfField value_moved literal_as_value field_as_literal
 
   -- ---- the graph
 

@@ -1,10 +1,10 @@
 ghost use Rattle.std.specs.Prelude.{◌≡◌, ◌<◌, ◌≤◌, ◌-◌, ◌^◌, length, IfOk};
-ghost use Rattle.gql_tokens.specs.Places.{first_place, place_behind};
+ghost use Rattle.gql_tokens.specs.Places.{first_place};
 ghost use Rattle.schema_text.specs.Extensions.{begins_at, len_before, has_no_token, is_whole, begins_with_extend, extends_at};
 
 use crate::depth::nests_too_deep;
 use gql_documents::parse_document;
-use gql_tokens::{Kind, Lexer, Place, SyntaxError};
+use gql_tokens::{Kind, Lexer, Place, SyntaxError, place_behind};
 use std::alloc::Global;
 use text_types::Memory;
 
@@ -71,25 +71,4 @@ fn begins_at(target: Place, place: Place, byte: u8) -> bool
     ensures { result ≡ begins_at target place byte }
 {
     place.row == target.row && place.column == target.column && !matches!(byte, 128..=191)
-}
-
-/// The place behind a byte that stands at a place before this rest.
-fn place_behind(place: Place, byte: u8, rest: &[u8]) -> Place
-    requires row { place.row < 2 ^ 64 - 1 }
-    requires column { place.column < 2 ^ 64 - 1 }
-    ensures { result ≡ place_behind place byte rest.now }
-{
-    if byte == b'\n' || (byte == b'\r' && !rest.starts_with(b"\n")) {
-        Place {
-            row: place.row + 1,
-            column: 1,
-        }
-    } else if matches!(byte, 128..=191) {
-        place
-    } else {
-        Place {
-            row: place.row,
-            column: place.column + 1,
-        }
-    }
 }

@@ -23,7 +23,9 @@ use Rattle.op_keys.proofs.FrontFolds.{fronts_in_field_out, fronts_in_inline_out,
 use Rattle.op_keys.proofs.SentFolds as sent
 use Rattle.op_keys.proofs.SentFolds.{below, sent_field_out, sent_inline_out, sent_selection_out, sent_in, set_form, sent_set_out}
 use Rattle.sent_laws.specs.Fronted.{AreSentSo, FrontsTellWhatIsSent}
-use Rattle.sent_laws.proofs.Sets.{OfInner, OfEach, set_induction, sets_among-append, sets_in, sets_inside, sets_if_any, sets_in-set, sets_inside-cons, sets_at}
+use Rattle.gql_numbering.proofs.Induction.{OfInner, OfEach, set_induction}
+use Rattle.gql_numbering.proofs.Growth.{sets_among-append}
+use Rattle.sent_laws.proofs.Sets.{sets_in, sets_inside, sets_if_any, sets_in-set, sets_inside-cons, sets_at}
 
 so_append : (fs gs : Fronts) (es bs xs ys : List SelectionSet) → AreSentSo fs es xs → AreSentSo gs bs ys → AreSentSo (fs ++ gs) (es ++ bs) (xs ++ ys)
 so_append [] gs [] bs [] ys h k = k
