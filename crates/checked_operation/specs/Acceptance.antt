@@ -35,11 +35,6 @@ pub record IsAcceptedAs (schema : Schema) (name : Option (List ℕ)) (checked : 
   pub chosen : chosen_place checked.document name ≡ Some checked.place
   pub whole : IsWhole checked
 
--- `check` accepts the operation under this schema, for some name
-pub record IsAccepted (schema : Schema) (checked : Checked) : Type 0 where
-  pub name : Option (List ℕ)
-  pub accepted : IsAcceptedAs schema name checked
-
 -- the execution of a checked operation, with the values of the schema's defaults and of its variables
 abbrev pub execution_of : Schema → Defaults → Pairs → Checked → Execution
 execution_of schema defaults variables checked = record {

@@ -3,7 +3,7 @@
 //! `fragment_rules`, and the definitions of `check_model` and `execution_model`.
 //!
 //! [`chosen_place`] finds the operation that a name asks for, and [`Checked`] keeps it with its document. The
-//! layers above take `IsAccepted` of `specs/` as their condition: validation refuses neither the document nor
+//! layers above take `IsAcceptedAs` of `specs/` as their condition: validation refuses neither the document nor
 //! the choice of its operation, the numbering and the index are the document's, and the place is the
 //! operation's. No look-up takes memory.
 #![tactic(auto)]

@@ -5,7 +5,8 @@
 //! is the first lexical fault or the end. [`Lexer`] is a cursor over that list and takes no memory;
 //! [`lex`] gives the spans of all its tokens, or the fault's place; [`nesting`] says how deep its
 //! brackets nest. [`name_text`], [`integer_text`], [`string_value`] and [`integer_value`] say what a token's text
-//! means, and [`place_behind`] counts rows and columns. That tokens and ignored stretches make up the text is a law of [`laws`].
+//! means, and [`place_behind`] counts rows and columns. That tokens and ignored stretches make up the text
+//! is a law of [`laws`].
 #![tactic(auto)]
 
 mod block_values;

@@ -1,10 +1,9 @@
 -- The first root field of a list, and whether all have its response key (GraphQL October 2021, 5.2.3.1).
 use Rattle.std.specs.Prelude.{Bool, true, false, ◌&&◌, not, Option, Some, None, bytes_eq}
 use Rattle.std.specs.Option.{option_map, option_map_or}
-use Rattle.gql_model.specs.declared.selection.Field.{Field}
 use Rattle.gql_model.specs.declared.selection.InlineFragment.{InlineFragment}
 use Rattle.gql_model.specs.declared.selection.Selection.{Selection}
-use Rattle.gql_model.specs.declared.selection.Selection.TheFolds.{fold-Selection, fold-Field, fold-InlineFragment}
+use Rattle.gql_model.specs.declared.selection.Selection.TheFolds.{fold-Selection, fold-InlineFragment}
 use Rattle.schema_model.specs.declared.schema.Schema.{Schema}
 use Rattle.schema_model.specs.declared.schema.TypeId.{TypeId}
 use Rattle.check_model.specs.FieldTypes.{is_typename}
@@ -43,11 +42,6 @@ is_one keys = option_map_or (λ first. keys.1 && not (is_typename first.1)) keys
 abbrev pub root_fields_of_selection : Schema → TypeId → Follow RootFields → Selection → RootFields
 root_fields_of_selection schema object follow =
     fold-Selection RootFields RootFields RootFields RootFields (selection_root follow) field_root (inline_root schema object) set_root
-
--- a field as a root field, by itself: what stands in its set doesn't count
-abbrev pub root_fields_of_field : Schema → TypeId → Follow RootFields → Field → RootFields
-root_fields_of_field schema object follow =
-    fold-Field RootFields RootFields RootFields RootFields (selection_root follow) field_root (inline_root schema object) set_root
 
 -- the root fields of an inline fragment for a root type, none where it doesn't apply; it is given what each spread gives
 abbrev pub root_fields_of_inline : Schema → TypeId → Follow RootFields → InlineFragment → RootFields
