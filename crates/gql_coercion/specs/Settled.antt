@@ -1,7 +1,6 @@
 -- The values of a schema's defaults, in rounds: each fills in what the one before it gave.
 use Rattle.std.specs.Prelude.{ℕ, zero, suc, ◌+◌, List, [], ◌∷◌, length}
 use Rattle.schema_model.specs.declared.schema.Schema.{Schema}
-use Rattle.schema_model.specs.declared.schema.InputValue.{InputValue}
 use Rattle.schema_model.specs.declared.schema.TypeForm.{TypeForm}
 use Rattle.schema_model.specs.declared.schema.TypeForm.TheVariants as form
 use Rattle.schema_model.specs.Schemas.{NamedType}

@@ -1,5 +1,5 @@
 -- The parser of documents (GraphQL October 2021, 2.2).
-use Rattle.std.specs.Prelude.{◌≡◌, ℕ, Bool, true, false, List, [], ◌∷◌, ◌++◌, Result, Ok, Err, nat_eq, if◌then◌else◌, codes}
+use Rattle.std.specs.Prelude.{◌≡◌, ℕ, Bool, List, [], ◌∷◌, ◌++◌, Result, Ok, Err, nat_eq, if◌then◌else◌, codes}
 use Rattle.gql_tokens.specs.Tokens.{Token, tokens_of}
 use Rattle.gql_tokens.specs.Cursors.{first_kind}
 use Rattle.gql_tokens.specs.declared.token.Place.{Place}

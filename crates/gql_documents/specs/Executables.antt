@@ -1,5 +1,5 @@
 -- The parser of operations and fragments (GraphQL October 2021, 2.3, 2.8 and 2.10).
-use Rattle.std.specs.Prelude.{Bool, true, false, List, [], ◌∷◌, Option, codes}
+use Rattle.std.specs.Prelude.{true, false, List, Option, codes}
 use Rattle.gql_tokens.specs.declared.token.Kind.TheVariants as kind
 use Rattle.gql_tokens.specs.declared.token.Place.{Place}
 use Rattle.gql_model.specs.declared.literal.Literal.{Literal}

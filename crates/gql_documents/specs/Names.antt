@@ -1,5 +1,4 @@
 -- The parser of names and types (GraphQL October 2021, 2.1.9, 2.8, 2.9.6 and 2.11).
-use Rattle.std.specs.Prelude.{List, [], ◌∷◌}
 use Rattle.gql_tokens.specs.declared.token.Kind.TheVariants as kind
 use Rattle.gql_model.specs.declared.name.Name.{Name}
 use Rattle.gql_model.specs.declared.type_ref.TypeNode.{TypeNode}

@@ -1,5 +1,5 @@
 -- Parsers: each follows a rule of the grammar, and looks at one token to choose.
-use Rattle.std.specs.Prelude.{◌≡◌, ℕ, zero, suc, Bool, true, false, if◌then◌else◌, List, [], ◌∷◌, ◌++◌, length, Option, Some, None, is_some, Result, Ok, Err}
+use Rattle.std.specs.Prelude.{◌≡◌, ℕ, zero, suc, Bool, if◌then◌else◌, List, [], ◌∷◌, ◌++◌, length, Option, Some, None, is_some, Result, Ok, Err}
 use Rattle.gql_tokens.specs.Tokens.{Token}
 use Rattle.gql_tokens.specs.declared.token.Place.{Place}
 use Rattle.gql_model.specs.Sorts.{Sort, starts}

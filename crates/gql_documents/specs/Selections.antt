@@ -1,5 +1,5 @@
 -- The parser of selection sets, arguments and directives (GraphQL October 2021, 2.4 to 2.8 and 2.12).
-use Rattle.std.specs.Prelude.{Bool, true, false, List, [], ◌∷◌, ◌++◌, Option, codes}
+use Rattle.std.specs.Prelude.{Bool, false, List, [], ◌∷◌, Option, codes}
 use Rattle.gql_tokens.specs.declared.token.Kind.TheVariants as kind
 use Rattle.gql_tokens.specs.declared.token.Place.{Place}
 use Rattle.gql_model.specs.declared.name.Name.{Name}

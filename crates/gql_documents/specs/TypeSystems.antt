@@ -1,8 +1,7 @@
 -- The parser of type system definitions (GraphQL October 2021, 3.2 to 3.13).
-use Rattle.std.specs.Prelude.{ℕ, Bool, true, false, List, [], ◌∷◌, Option, codes}
+use Rattle.std.specs.Prelude.{ℕ, true, List, [], ◌∷◌, Option, codes}
 use Rattle.gql_tokens.specs.declared.token.Kind.{Kind}
 use Rattle.gql_tokens.specs.declared.token.Kind.TheVariants as kind
-use Rattle.gql_tokens.specs.declared.token.Place.{Place}
 use Rattle.gql_model.specs.declared.name.Name.{Name}
 use Rattle.gql_model.specs.declared.type_system.TypeSystem.{TypeSystem}
 use Rattle.gql_model.specs.declared.type_system.TypeSystemForm.{TypeSystemForm}
@@ -11,8 +10,8 @@ use Rattle.gql_model.specs.declared.type_system.ObjectDefinition.{ObjectDefiniti
 use Rattle.gql_model.specs.declared.type_system.FieldDefinition.{FieldDefinition}
 use Rattle.gql_model.specs.declared.type_system.InputDefinition.{InputDefinition}
 use Rattle.gql_model.specs.declared.type_system.EnumValueDefinition.{EnumValueDefinition}
-use Rattle.gql_model.specs.Sorts.{Sort, Mark, Word, mark, word}
-use Rattle.gql_model.specs.Names.{any_name, enum_name}
+use Rattle.gql_model.specs.Sorts.{Sort, Mark, mark, word}
+use Rattle.gql_model.specs.Names.{any_name}
 use Rattle.gql_model.specs.Rules.{cons, last}
 use Rattle.gql_model.specs.TypeSystems as grammar
 use Rattle.gql_documents.specs.Parsing.{Parser, tok, whether, seq, via, opt, either, many, here, behind, between, more, perhaps}

@@ -1,5 +1,5 @@
 -- Operations and fragments (GraphQL October 2021, 2.3, 2.8 and 2.10).
-use Rattle.std.specs.Prelude.{ℕ, Bool, true, false, List, [], ◌∷◌, Option, Some, None, if◌then◌else◌, codes}
+use Rattle.std.specs.Prelude.{true, false, List, [], Option, Some, None, if◌then◌else◌, codes}
 use Rattle.gql_tokens.specs.Tokens.{Token}
 use Rattle.gql_tokens.specs.declared.token.Kind.TheVariants as kind
 use Rattle.gql_tokens.specs.declared.token.Place.{Place}
@@ -13,8 +13,8 @@ use Rattle.gql_model.specs.declared.executable.OperationKind.TheVariants.{Query,
 use Rattle.gql_model.specs.declared.executable.Operation.{Operation}
 use Rattle.gql_model.specs.declared.executable.VariableDefinition.{VariableDefinition}
 use Rattle.gql_model.specs.declared.executable.Fragment.{Fragment}
-use Rattle.gql_model.specs.Sorts.{Sort, Word, is_in, mark, word}
-use Rattle.gql_model.specs.Rules.{Rule, One, Seq, Opt, Many, Made, Either, Here, Behind, Between, More, Perhaps}
+use Rattle.gql_model.specs.Sorts.{is_in, mark, word}
+use Rattle.gql_model.specs.Rules.{Rule, One, Seq, Opt, Made, Either, Here, Behind, Between, More, Perhaps}
 use Rattle.gql_model.specs.Names.{NameRule, FragmentNameRule}
 use Rattle.gql_model.specs.Types.{TypeRule}
 use Rattle.gql_model.specs.Literals.{ValueRule}

@@ -1,5 +1,5 @@
 -- Values (GraphQL October 2021, 2.9).
-use Rattle.std.specs.Prelude.{ℕ, Bool, true, false, List, [], ◌∷◌, Option, Some, None, if◌then◌else◌, codes, bytes_eq}
+use Rattle.std.specs.Prelude.{ℕ, Bool, true, false, List, Option, Some, None, if◌then◌else◌, codes, bytes_eq}
 use Rattle.gql_tokens.specs.Tokens.{Token, string_value_of, integer_value_of}
 use Rattle.gql_tokens.specs.declared.token.Kind.{Kind}
 use Rattle.gql_tokens.specs.declared.token.Kind.TheVariants as kind
@@ -9,7 +9,7 @@ use Rattle.gql_model.specs.declared.literal.Literal.{Literal, roll-Literal}
 use Rattle.gql_model.specs.declared.literal.LiteralValue.{LiteralValue, roll-LiteralValue}
 use Rattle.gql_model.specs.declared.literal.LiteralValue.TheOpen.{LiteralValue-F}
 use Rattle.gql_model.specs.declared.literal.ObjectField.{ObjectField, roll-ObjectField}
-use Rattle.gql_model.specs.Sorts.{Sort, Mark, mark}
+use Rattle.gql_model.specs.Sorts.{mark}
 use Rattle.gql_model.specs.Rules.{Rule, One, Seq, Many, Made, Either, Unless, Here, Behind, Between, Nested}
 use Rattle.gql_model.specs.Names.{NameRule}
 

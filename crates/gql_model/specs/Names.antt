@@ -1,5 +1,5 @@
 -- Names (GraphQL October 2021, 2.1.9).
-use Rattle.std.specs.Prelude.{ℕ, Bool, true, false, not, List, [], ◌∷◌, Option, Some, None, if◌then◌else◌, codes}
+use Rattle.std.specs.Prelude.{true, false, List, [], ◌∷◌, Option, Some, None, if◌then◌else◌, codes}
 use Rattle.gql_tokens.specs.Tokens.{Token}
 use Rattle.gql_model.specs.declared.name.Name.{Name}
 use Rattle.gql_model.specs.Sorts.{Sort, Unlike, is_in, mark}

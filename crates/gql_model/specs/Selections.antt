@@ -1,5 +1,5 @@
 -- Selection sets, fields, fragments in them, arguments and directives (GraphQL October 2021, 2.4 to 2.8 and 2.12).
-use Rattle.std.specs.Prelude.{ℕ, Bool, true, false, List, [], ◌∷◌, Option, Some, None, codes}
+use Rattle.std.specs.Prelude.{Bool, false, List, Option, Some, None, codes}
 use Rattle.gql_tokens.specs.declared.token.Kind.TheVariants as kind
 use Rattle.gql_tokens.specs.declared.token.Place.{Place}
 use Rattle.gql_model.specs.declared.name.Name.{Name}
@@ -11,7 +11,7 @@ use Rattle.gql_model.specs.declared.selection.SelectionSet.{SelectionSet, roll-S
 use Rattle.gql_model.specs.declared.selection.Selection.{Selection, roll-Selection}
 use Rattle.gql_model.specs.declared.selection.Selection.TheOpen.{Selection-F}
 use Rattle.gql_model.specs.declared.selection.Field.{Field, roll-Field}
-use Rattle.gql_model.specs.declared.selection.InlineFragment.{InlineFragment, roll-InlineFragment}
+use Rattle.gql_model.specs.declared.selection.InlineFragment.{roll-InlineFragment}
 use Rattle.gql_model.specs.Sorts.{mark, word}
 use Rattle.gql_model.specs.Rules.{Rule, Seq, Opt, Many, Made, Either, Here, Behind, Between, More, Perhaps, Nested}
 use Rattle.gql_model.specs.Names.{NameRule, FragmentNameRule}

@@ -1,5 +1,5 @@
 -- Sorts of tokens: what a production may begin with, or be followed by.
-use Rattle.std.specs.Prelude.{ℕ, Bool, true, false, not, ◌&&◌, ◌||◌, List, [], ◌∷◌, nat_eq, bytes_eq}
+use Rattle.std.specs.Prelude.{ℕ, Bool, false, not, ◌&&◌, ◌||◌, List, [], ◌∷◌, nat_eq, bytes_eq}
 use Rattle.gql_tokens.specs.Tokens.{Token}
 use Rattle.gql_tokens.specs.declared.token.Kind.{Kind}
 use Rattle.gql_tokens.specs.declared.token.Kind.TheVariants as kind

@@ -1,5 +1,5 @@
 -- Type system definitions (GraphQL October 2021, 3.2 to 3.13).
-use Rattle.std.specs.Prelude.{ℕ, Bool, true, false, List, [], ◌∷◌, Option, Some, None, codes}
+use Rattle.std.specs.Prelude.{ℕ, Bool, true, List, Option, Some, None, codes}
 use Rattle.gql_tokens.specs.Tokens.{Token, string_value_of}
 use Rattle.gql_tokens.specs.declared.token.Kind.TheVariants as kind
 use Rattle.gql_tokens.specs.declared.token.Kind.{Kind}
@@ -12,18 +12,12 @@ use Rattle.gql_model.specs.declared.executable.OperationKind.{OperationKind}
 use Rattle.gql_model.specs.declared.type_system.TypeSystem.{TypeSystem}
 use Rattle.gql_model.specs.declared.type_system.TypeSystemForm.{TypeSystemForm}
 use Rattle.gql_model.specs.declared.type_system.TypeSystemForm.TheVariants as form
-use Rattle.gql_model.specs.declared.type_system.SchemaDefinition.{SchemaDefinition}
 use Rattle.gql_model.specs.declared.type_system.RootOperation.{RootOperation}
-use Rattle.gql_model.specs.declared.type_system.ScalarDefinition.{ScalarDefinition}
 use Rattle.gql_model.specs.declared.type_system.ObjectDefinition.{ObjectDefinition}
 use Rattle.gql_model.specs.declared.type_system.FieldDefinition.{FieldDefinition}
 use Rattle.gql_model.specs.declared.type_system.InputDefinition.{InputDefinition}
-use Rattle.gql_model.specs.declared.type_system.UnionDefinition.{UnionDefinition}
-use Rattle.gql_model.specs.declared.type_system.EnumDefinition.{EnumDefinition}
 use Rattle.gql_model.specs.declared.type_system.EnumValueDefinition.{EnumValueDefinition}
-use Rattle.gql_model.specs.declared.type_system.InputObjectDefinition.{InputObjectDefinition}
-use Rattle.gql_model.specs.declared.type_system.DirectiveDefinition.{DirectiveDefinition}
-use Rattle.gql_model.specs.Sorts.{Sort, mark, word}
+use Rattle.gql_model.specs.Sorts.{mark, word}
 use Rattle.gql_model.specs.Rules.{Rule, One, Seq, Opt, Many, Made, Whether, Either, Here, Behind, Between, More, Perhaps, cons, last}
 use Rattle.gql_model.specs.Names.{NameRule, EnumNameRule}
 use Rattle.gql_model.specs.Types.{TypeRule}

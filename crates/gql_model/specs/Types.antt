@@ -1,9 +1,9 @@
 -- Types (GraphQL October 2021, 2.11).
-use Rattle.std.specs.Prelude.{◌⊎◌, Bool, true, false}
+use Rattle.std.specs.Prelude.{◌⊎◌, Bool}
 use mathlib.Core.Logic.{inl, inr}
 use Rattle.gql_model.specs.declared.name.Name.{Name}
 use Rattle.gql_model.specs.declared.type_ref.TypeNode.{TypeNode}
-use Rattle.gql_model.specs.declared.type_ref.TypeRef.{TypeRef, roll-TypeRef}
+use Rattle.gql_model.specs.declared.type_ref.TypeRef.{roll-TypeRef}
 use Rattle.gql_model.specs.declared.type_ref.TypeRef.TheOpen.{TypeRef-F}
 use Rattle.gql_model.specs.Sorts.{mark}
 use Rattle.gql_model.specs.Rules.{Rule, Seq, Made, Whether, Either, Between, Nested}

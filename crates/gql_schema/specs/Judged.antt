@@ -1,5 +1,5 @@
 -- Which code refuses definitions: the least that is broken, with its least line.
-use Rattle.std.specs.Prelude.{◌≡◌, ℕ, List, Option, None, Some}
+use Rattle.std.specs.Prelude.{◌≡◌, ℕ, List, Option, Some}
 use Rattle.std.specs.Option.{option_map, option_or}
 use Rattle.gql_model.specs.declared.type_system.TypeSystemForm.{TypeSystemForm}
 use Rattle.schema_model.specs.declared.schema.Schema.{Schema}

@@ -1,13 +1,7 @@
 -- Names with the lines that they stand at.
 pub use Rattle.schema_rules.specs.Lines.{Mark}
-use Rattle.std.specs.Prelude.{◌≡◌, ℕ, Bool, List, [], ◌∷◌, Option, None, Some, cond, bytes_eq, codes}
+use Rattle.std.specs.Prelude.{Option, None, Some}
 use Rattle.gql_model.specs.declared.name.Name.{Name}
-use Rattle.gql_model.specs.declared.executable.OperationKind.{OperationKind}
-use Rattle.gql_model.specs.declared.executable.OperationKind.TheVariants.{Query, Mutation, Subscription}
-use Rattle.gql_model.specs.declared.type_system.RootOperation.{RootOperation}
-use Rattle.gql_model.specs.declared.type_system.FieldDefinition.{FieldDefinition}
-use Rattle.gql_model.specs.declared.type_system.InputDefinition.{InputDefinition}
-use Rattle.gql_model.specs.declared.type_system.EnumValueDefinition.{EnumValueDefinition}
 use Rattle.gql_model.specs.declared.type_system.TypeSystemForm.{TypeSystemForm}
 use Rattle.gql_model.specs.declared.type_system.TypeSystemForm.TheVariants as form
 

@@ -8,13 +8,11 @@ use Rattle.gql_model.specs.declared.executable.OperationKind.TheVariants as oper
 use Rattle.gql_model.specs.declared.type_system.TypeSystemForm.{TypeSystemForm}
 use Rattle.gql_model.specs.declared.type_system.TypeSystemForm.TheVariants as definition
 use Rattle.gql_model.specs.declared.type_system.RootOperation.{RootOperation}
-use Rattle.gql_model.specs.declared.type_system.ObjectDefinition.{ObjectDefinition}
 use Rattle.gql_model.specs.declared.type_system.FieldDefinition.{FieldDefinition}
 use Rattle.gql_model.specs.declared.type_system.InputDefinition.{InputDefinition}
 use Rattle.gql_model.specs.declared.type_system.EnumValueDefinition.{EnumValueDefinition}
 use Rattle.gql_model.specs.declared.type_system.DirectiveDefinition.{DirectiveDefinition}
 use Rattle.schema_model.specs.declared.schema.Schema.{Schema}
-use Rattle.schema_model.specs.declared.schema.SchemaType.{SchemaType}
 use Rattle.schema_model.specs.declared.schema.SchemaField.{SchemaField}
 use Rattle.schema_model.specs.declared.schema.SchemaDirective.{SchemaDirective}
 use Rattle.schema_model.specs.declared.schema.InputValue.{InputValue}
@@ -24,7 +22,7 @@ use Rattle.schema_model.specs.declared.schema.RootNames.{RootNames}
 use Rattle.schema_model.specs.declared.schema.TypeForm.{TypeForm}
 use Rattle.schema_model.specs.declared.schema.TypeForm.TheVariants as form
 use Rattle.schema_model.specs.Schemas.{NamedType}
-use Rattle.schema_model.specs.Tables.{entry, put, tabled}
+use Rattle.schema_model.specs.Tables.{entry, tabled}
 use Rattle.gql_schema.specs.Marks.{Mark, mark_of}
 use Rattle.gql_schema.specs.Ignored.{scalars}
 

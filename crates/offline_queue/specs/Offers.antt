@@ -1,11 +1,11 @@
 -- What the queue's stage makes of mutations and their answers (urql's offlineExchange).
-use Rattle.std.specs.Prelude.{◌≡◌, ℕ, Bool, true, false, List, [], ◌∷◌, map, Option, Some, None, IsSome, Result, Ok, Err, if◌then◌else◌}
+use Rattle.std.specs.Prelude.{◌≡◌, ℕ, true, false, List, [], ◌∷◌, map, Option, Some, None, IsSome, Result, Ok, Err, if◌then◌else◌}
 use Rattle.std.specs.FinMap as finite
 use Rattle.std.specs.Ordering.{nat_cmp}
 use Rattle.stream_core.specs.declared.operation.Kind.{Kind}
 use Rattle.stream_core.specs.declared.operation.Kind.TheVariants as kind
 use Rattle.stream_core.specs.declared.flow.Flow.{Flow}
-use Rattle.stream_core.specs.declared.flow.Flow.TheVariants.{Down, Up}
+use Rattle.stream_core.specs.declared.flow.Flow.TheVariants.{Down}
 use Rattle.offline_queue.specs.declared.keeper.PutError.{PutError}
 use Rattle.offline_queue.specs.declared.offer.Offer.{Offer}
 use Rattle.offline_queue.specs.declared.offer.Offer.TheVariants.{Mutation, Teardown}

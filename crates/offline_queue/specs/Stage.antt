@@ -1,5 +1,5 @@
 -- A put of the queue's stage, and what an answer comes up as.
-use Rattle.std.specs.Prelude.{◌≡◌, ℕ, List, [], ◌∷◌, map, Option, Some, None, Result, Ok, Err, OnOk, if◌then◌else◌}
+use Rattle.std.specs.Prelude.{◌≡◌, ℕ, List, [], ◌∷◌, map, Option, Some, None, Result, Err, OnOk, if◌then◌else◌}
 use Rattle.std.specs.FinMap as finite
 use Rattle.fault_causes.specs.Causes.{HasCauseOf}
 use Rattle.fault_causes.specs.Crash.{LeavesOnly}

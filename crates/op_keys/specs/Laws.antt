@@ -1,5 +1,5 @@
 -- What is so of documents that are sent and of the numbers of identities.
-use Rattle.std.specs.Prelude.{◌≡◌, ◌↔◌, ℕ, List, Some, fold}
+use Rattle.std.specs.Prelude.{◌≡◌, ◌↔◌, ℕ, Some, fold}
 use Rattle.op_keys.specs.declared.identity.Identity.{Identity}
 use Rattle.op_keys.specs.Identities.{Identities, number_of, interned}
 

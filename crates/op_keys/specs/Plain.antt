@@ -4,7 +4,7 @@ use Rattle.gql_model.specs.declared.selection.SelectionSet.{SelectionSet}
 use Rattle.gql_model.specs.declared.selection.Selection.{Selection, out-Selection}
 use Rattle.gql_model.specs.declared.selection.Field.{Field, out-Field}
 use Rattle.gql_model.specs.declared.selection.InlineFragment.{InlineFragment}
-use Rattle.gql_model.specs.declared.selection.Selection.TheOpen.{Selection-F, Field-F}
+use Rattle.gql_model.specs.declared.selection.Selection.TheOpen.{Selection-F}
 use Rattle.execution_model.specs.Fronts.{is_plain_typename}
 
 -- whether a field is `__typename`, plainly

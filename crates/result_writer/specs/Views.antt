@@ -4,7 +4,6 @@ use Rattle.execution_model.specs.Fronts.{fronts_of}
 use Rattle.checked_operation.specs.Acceptance.{IsWhole}
 use Rattle.answer_model.specs.Writing as spec
 use Rattle.field_asking.specs.declared.asking.Asking.{Asking}
-use Rattle.field_asking.specs.declared.field.AskedField.{AskedField}
 use Rattle.field_asking.specs.Asking.{executed, asked_field}
 use Rattle.result_writer.specs.declared.object.Object.{Object}
 use Rattle.result_writer.specs.declared.object.Field.{Field}

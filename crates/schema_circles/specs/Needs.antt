@@ -1,5 +1,5 @@
 -- S9: an input object that needs itself through Non-Null fields that aren't lists (GraphQL October 2021, 3.10, Circular References).
-use Rattle.std.specs.Prelude.{ℕ, Bool, true, false, List, [], Option, None, cond, map}
+use Rattle.std.specs.Prelude.{ℕ, List, [], Option, None, cond, map}
 use Rattle.std.specs.List.{flat_map}
 use Rattle.std.specs.Option.{option_to_list}
 use Rattle.gql_model.specs.declared.type_ref.TypeRef.{TypeRef, out-TypeRef}

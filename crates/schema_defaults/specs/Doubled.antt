@@ -1,5 +1,5 @@
 -- Object literals in which a field stands twice (GraphQL October 2021, 5.6.3, Input Object Field Uniqueness).
-use Rattle.std.specs.Prelude.{ℕ, Bool, true, false, ◌||◌, List, map, is_some}
+use Rattle.std.specs.Prelude.{ℕ, Bool, false, ◌||◌, List, map, is_some}
 use Rattle.std.specs.List.{list_any}
 use Rattle.gql_model.specs.declared.literal.Literal.{Literal}
 use Rattle.gql_model.specs.declared.literal.LiteralValue.{LiteralValue}

@@ -1,5 +1,5 @@
 -- S9: a type has no fields, values or members (GraphQL October 2021, 3.6 to 3.10, Type Validation).
-use Rattle.std.specs.Prelude.{◌==◌, ℕ, Bool, false, List, length, Option, None, Some, cond}
+use Rattle.std.specs.Prelude.{◌==◌, ℕ, Bool, false, length, Option, None, Some, cond}
 use Rattle.schema_model.specs.declared.schema.Schema.{Schema}
 use Rattle.schema_model.specs.declared.schema.TypeForm.{TypeForm}
 use Rattle.schema_model.specs.declared.schema.TypeForm.TheVariants as form

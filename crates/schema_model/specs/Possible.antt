@@ -1,5 +1,5 @@
 -- Which object types a composite type stands for (GraphQL October 2021, 5.5.2.3, GetPossibleTypes).
-use Rattle.std.specs.Prelude.{ℕ, Bool, true, false, ◌&&◌, ◌||◌, List, Option, is_some, bytes_eq}
+use Rattle.std.specs.Prelude.{ℕ, Bool, true, false, ◌&&◌, ◌||◌, List, is_some, bytes_eq}
 use Rattle.std.specs.List.{list_any}
 use Rattle.std.specs.Option.{option_map_or}
 use Rattle.schema_model.specs.declared.schema.Schema.{Schema}

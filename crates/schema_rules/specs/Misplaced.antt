@@ -1,5 +1,5 @@
 -- S6: a type of the wrong kind is named (GraphQL October 2021, 3.4.2, IsInputType and IsOutputType; 3.6, 3.7 and 3.8).
-use Rattle.std.specs.Prelude.{ℕ, Bool, true, false, List, Option, None, Some, cond}
+use Rattle.std.specs.Prelude.{ℕ, Bool, true, false, Option, None, Some, cond}
 use Rattle.std.specs.Option.{option_and_then}
 use Rattle.schema_model.specs.declared.schema.Schema.{Schema}
 use Rattle.schema_model.specs.declared.schema.TypeForm.{TypeForm}

@@ -1,5 +1,5 @@
 -- S8: the root types (GraphQL October 2021, 3.3.1).
-use Rattle.std.specs.Prelude.{ℕ, Bool, false, List, Option, None, Some, cond, is_some, bytes_eq, max}
+use Rattle.std.specs.Prelude.{ℕ, false, Option, None, Some, cond, is_some, bytes_eq, max}
 use Rattle.std.specs.Option.{option_and_then, option_map_or}
 use Rattle.schema_model.specs.declared.schema.Schema.{Schema}
 use Rattle.schema_model.specs.declared.schema.RootName.{RootName}

@@ -1,5 +1,5 @@
 -- Types as they are written (GraphQL October 2021, 2.11).
-use Rattle.std.specs.Prelude.{ℕ, Bool, true, false, ◌&&◌, ◌||◌, not, List, bytes_eq}
+use Rattle.std.specs.Prelude.{ℕ, Bool, List}
 use Rattle.gql_model.specs.declared.type_ref.TypeRef.{TypeRef, out-TypeRef, fold-TypeRef}
 use Rattle.gql_model.specs.declared.type_ref.TypeRef.TheOpen.{TypeRef-F}
 

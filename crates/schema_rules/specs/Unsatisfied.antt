@@ -6,7 +6,6 @@ use Rattle.schema_model.specs.declared.schema.Schema.{Schema}
 use Rattle.schema_model.specs.declared.schema.SchemaField.{SchemaField}
 use Rattle.schema_model.specs.declared.schema.InputValue.{InputValue}
 use Rattle.schema_model.specs.declared.schema.Interfaced.{Interfaced}
-use Rattle.schema_model.specs.declared.schema.SchemaType.{SchemaType}
 use Rattle.schema_model.specs.declared.schema.TypeForm.{TypeForm}
 use Rattle.schema_model.specs.declared.schema.TypeForm.TheVariants as form
 use Rattle.schema_model.specs.Schemas.{NamedType}

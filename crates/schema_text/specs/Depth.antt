@@ -2,7 +2,7 @@
 use Rattle.std.specs.Prelude.{ℕ, Bool, List, [], ◌∷◌, cond, nat_lt}
 use Rattle.gql_tokens.specs.Heads.{is_last}
 use Rattle.gql_tokens.specs.Nesting.{open_behind, nesting_of}
-use Rattle.gql_tokens.specs.Tokens.{Token, tokens_of}
+use Rattle.gql_tokens.specs.Tokens.{Token}
 
 -- more than 64 brackets are open at once
 abbrev pub nests_too_deep : List ℕ → Bool

@@ -1,5 +1,5 @@
 -- Extensions (GraphQL October 2021, 3.3.2 and 3.4.3), which aren't taken.
-use Rattle.std.specs.Prelude.{ℕ, zero, suc, Bool, ◌&&◌, ◌||◌, not, List, [], ◌∷◌, cond, codes, nat_eq, take, drop, is_ok}
+use Rattle.std.specs.Prelude.{ℕ, suc, Bool, ◌&&◌, ◌||◌, not, List, [], ◌∷◌, cond, codes, nat_eq, take, drop, is_ok}
 use Rattle.gql_tokens.specs.declared.token.Place.{Place}
 use Rattle.gql_tokens.specs.Places.{first_place, is_inside_character, place_behind}
 use Rattle.gql_tokens.specs.Tokens.{tokens_of}

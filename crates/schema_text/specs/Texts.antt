@@ -1,5 +1,5 @@
 -- Which type system definitions a schema's text holds.
-use Rattle.std.specs.Prelude.{◌≡◌, ℕ, Bool, true, false, List, [], ◌∷◌, Option, None, Some, cond, Result, Ok, Err}
+use Rattle.std.specs.Prelude.{◌≡◌, ℕ, List, [], ◌∷◌, Option, None, Some, cond, Result, Ok, Err}
 use Rattle.std.specs.List.{fold, flat_map}
 use Rattle.std.specs.Option.{option_or}
 use Rattle.gql_tokens.specs.declared.token.Place.{Place}
