@@ -1,5 +1,3 @@
 mod CoercedLaws
-mod DepthLaws
-mod IntoLaws
-mod NameLaws
+mod FieldLaws
 mod PutLaws

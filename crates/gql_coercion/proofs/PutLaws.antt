@@ -24,7 +24,7 @@ use Rattle.execution_model.specs.Defaults.{constant, field_value, fields_values,
 use Rattle.execution_model.specs.Arguments.{argument_default, argument_given, argument_member, coerced_argument, coerced_arguments}
 use Rattle.execution_model.specs.Variables.{variable_meaning, with_variable, coerced_variables}
 use Rattle.check_model.proofs.ListLaws.{next_left, position_push}
-use Rattle.gql_coercion.proofs.NameLaws.{put_new}
+use Rattle.offered_values.proofs.NameLaws.{put_new}
 use Rattle.gql_coercion.specs.Coerced.{with_more, variable_names, HasDistinctVariables}
 
 -- ---- one pair

@@ -6,13 +6,11 @@ ghost use Rattle.execution_model.specs.Arguments as spec;
 ghost use Rattle.execution_model.specs.Inputs as inputs_spec;
 
 use crate::constants::default_value;
-use crate::inputs::Inputs;
-use crate::items::or_nothing;
 use crate::literals::literal_given;
-use crate::object::ObjectBuilder;
 use execution_model::Given;
 use gql_model::Argument;
 use gql_value::{Members, Value};
+use offered_values::{Inputs, ObjectBuilder, nothing_given};
 use schema_model::{InputValue, Table};
 use schema_rules::is_non_null;
 use std::alloc::Global;
@@ -121,4 +119,14 @@ fn default_given(alloc: Global, inputs: &Inputs<'_>, input: &InputValue) -> Resu
     ensures { IfOk result (λ given. given ≡ inputs_spec.default_given input.now (spec.argument_default inputs.now.defaults.now inputs.now.schema.now input.now)) }
 {
     Ok(or_nothing(input, default_value(alloc, inputs, input)?))
+}
+
+/// A value, or what stands where there is none.
+fn or_nothing(input: &InputValue, value: Option<Value>) -> Given
+    ensures { result ≡ inputs_spec.default_given input.now value }
+{
+    match value {
+        Some(value) => Given::Is(value),
+        None => nothing_given(input),
+    }
 }

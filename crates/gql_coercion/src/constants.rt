@@ -2,11 +2,11 @@ ghost use Rattle.std.specs.Prelude.{◌≡◌, IfOk};
 ghost use Rattle.execution_model.specs.Arguments.{argument_default};
 ghost use Rattle.execution_model.specs.Defaults as spec;
 
-use crate::inputs::Inputs;
 use crate::literals::literal_given;
 use execution_model::Given;
 use gql_model::{Literal, TypeRef};
 use gql_value::Value;
+use offered_values::Inputs;
 use schema_model::{InputValue, Table};
 use std::alloc::Global;
 use text_types::Memory;

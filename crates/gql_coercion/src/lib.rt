@@ -1,6 +1,6 @@
 //! The values of an operation's variables and of arguments (GraphQL October 2021, 6.1.2 and 6.4.1, with
-//! the Input Coercion of 3.5 to 3.12). It stands on the meaning of `execution_model` and on the schemas
-//! of `schema_model`.
+//! the Input Coercion of 3.5 to 3.12). It stands on the meaning of `execution_model`, on the schemas of
+//! `schema_model`, and on `offered_values` for values that are given and for what literals share with them.
 //!
 //! The layers above have one contract: [`coerce`] gives the values of declared variables or the first of
 //! them that is refused, and [`coerced_arguments`] the values of the arguments of a field or a directive,
@@ -11,20 +11,14 @@
 mod arguments;
 mod constants;
 mod defaults;
-mod depth;
 mod error;
-mod inputs;
-mod items;
 mod literals;
-mod object;
-mod offers;
 mod rounds;
 mod same;
-mod scalars;
 mod variables;
 
 pub use arguments::coerced_arguments;
 pub use defaults::default_values;
 pub use error::CoerceError;
-pub use inputs::Inputs;
+pub use offered_values::Inputs;
 pub use variables::coerce;

@@ -6,13 +6,13 @@ ghost use Rattle.schema_rules.specs.TypeRefs.{named_type};
 ghost use Rattle.execution_model.specs.Inputs as inputs_spec;
 ghost use Rattle.execution_model.specs.Literals as spec;
 
-use crate::inputs::{Inputs, default_in};
-use crate::items::{as_object, as_object_in, item_value, or_default};
-use crate::object::ObjectBuilder;
-use crate::scalars::{boolean_at, integer_at, name_at, null_at, string_at};
 use execution_model::Given;
 use gql_model::{Literal, LiteralValue, ObjectField, TypeRef};
 use gql_value::{Members, Value};
+use offered_values::{
+    Inputs, ObjectBuilder, as_object, as_object_in, boolean_at, default_in, integer_at, item_value,
+    name_at, null_at, or_default, string_at,
+};
 use schema_defaults::takes_any;
 use schema_model::{InputValue, Table};
 use schema_rules::named_type;
@@ -156,8 +156,17 @@ fn object_in(
 ) -> Result<Given, Memory>
     ensures { IfOk result (λ given. given ≡ spec.object_in inputs.now.defaults.now inputs.now.schema.now (map (spec.object_field_meaning inputs.now.defaults.now inputs.now.schema.now variables.now) fields.now) wanted.now) }
 {
-    match inputs.field_list(named_type(wanted)) {
-        Some(declared) => input_object(alloc, inputs, variables, fields, declared, wanted),
+    match inputs.fields(named_type(wanted)) {
+        Some(declared) => {
+            input_object(
+                alloc,
+                inputs,
+                variables,
+                fields,
+                declared.as_slice(),
+                wanted,
+            )
+        }
         None => free_object(alloc, inputs, variables, fields, wanted),
     }
 }

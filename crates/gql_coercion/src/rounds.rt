@@ -5,8 +5,8 @@ ghost use Rattle.schema_model.specs.Tables.{put};
 ghost use Rattle.execution_model.specs.Defaults as spec;
 
 use crate::constants::default_value;
-use crate::inputs::Inputs;
 use gql_value::Value;
+use offered_values::Inputs;
 use schema_model::{InputValue, Schema, SchemaType, Table};
 use std::alloc::Global;
 use text_types::{Memory, Text};

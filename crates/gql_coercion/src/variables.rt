@@ -1,19 +1,17 @@
 ghost use Rattle.std.specs.Prelude.{◌≡◌, [], IfOk, IfErr, cond};
 ghost use Rattle.std.specs.declared.result.Result.TheVariants.{Ok};
+ghost use Rattle.execution_model.specs.Inputs as inputs_spec;
 ghost use Rattle.execution_model.specs.Variables as spec;
 ghost use Rattle.execution_model.specs.declared.given.Given.TheVariants.{Absent, Refused, Is};
 ghost use Rattle.schema_rules.specs.TypeRefs.{is_non_null as non_null};
 ghost use Rattle.gql_coercion.specs.Coerced.{with_more, HasDistinctVariables, IsCoerceError};
 
 use crate::constants::constant;
-use crate::depth::is_deeper;
 use crate::error::CoerceError;
-use crate::inputs::Inputs;
-use crate::items::{as_given, with_member};
-use crate::offers::offered;
 use execution_model::Given;
 use gql_model::VariableDefinition;
 use gql_value::Value;
+use offered_values::{Inputs, is_deeper, offered};
 use schema_model::Table;
 use schema_rules::is_non_null;
 use std::alloc::Global;
@@ -55,6 +53,21 @@ fn coerced(
         values = next;
     }
     Ok(Ok(values))
+}
+
+/// One value more, unless it is absent; nothing where it is refused.
+fn with_member(
+    values: Table<Value>,
+    name: &Text,
+    given: Given,
+) -> Result<Option<Table<Value>>, Memory>
+    ensures { IfOk result (λ r. r ≡ inputs_spec.next_members name.now given values) }
+{
+    match given {
+        Given::Absent => Ok(Some(values)),
+        Given::Refused => Ok(None),
+        Given::Is(value) => Ok(Some(values.put(name.copy()?, value)?)),
+    }
 }
 
 fn variable_given(
@@ -108,6 +121,15 @@ fn not_given(
             Ok(as_given(constant(alloc, inputs, literal, wanted)?))
         }
         None => Ok(left_out(variable)),
+    }
+}
+
+fn as_given(value: Option<Value>) -> Given
+    ensures { result ≡ inputs_spec.as_given value }
+{
+    match value {
+        Some(value) => Given::Is(value),
+        None => Given::Refused,
     }
 }
 

@@ -1,3 +1,3 @@
 mod DepthLaws
-mod IntoLaws
-mod NameLaws
+pub mod IntoLaws
+pub mod NameLaws

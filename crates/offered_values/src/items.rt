@@ -12,7 +12,7 @@ use std::alloc::Global;
 use text_types::Memory;
 
 /// An item of a list: a variable without value counts as null.
-pub(crate) fn item_value(given: Given) -> Option<Value>
+pub fn item_value(given: Given) -> Option<Value>
     ensures { result ≡ spec.item_value given }
 {
     match given {
@@ -23,7 +23,7 @@ pub(crate) fn item_value(given: Given) -> Option<Value>
 }
 
 /// What is given, or the default of a field.
-pub(crate) fn or_default(
+pub fn or_default(
     alloc: Global,
     input: &InputValue,
     default: Option<&Value>,
@@ -50,7 +50,7 @@ fn default_given(
     }
 }
 
-fn nothing_given(input: &InputValue) -> Given
+pub fn nothing_given(input: &InputValue) -> Given
     ensures { result ≡ spec.default_given input.now Option.None }
 {
     if is_non_null(&input.input_type.type_ref) {
@@ -61,7 +61,7 @@ fn nothing_given(input: &InputValue) -> Given
 }
 
 /// An object of these members, where none was refused.
-pub(crate) fn as_object(members: Option<Members>) -> Given
+pub fn as_object(members: Option<Members>) -> Given
     ensures { result ≡ spec.as_object members }
 {
     match members {
@@ -71,7 +71,7 @@ pub(crate) fn as_object(members: Option<Members>) -> Given
 }
 
 /// An object of these members in the lists of a type, where none was refused.
-pub(crate) fn as_object_in(
+pub fn as_object_in(
     alloc: Global,
     wanted: &TypeRef,
     members: Option<Members>,

@@ -4,17 +4,20 @@
 //!
 //! Its one contract: [`offered`] gives exactly what `execution_model` defines, [`ObjectBuilder`] puts the
 //! members of an object together, of which the first of a name counts, and [`is_deeper`] tells how deep a
-//! value nests. [`InputTypes`] is what values are offered to: a schema, with the values of its defaults.
+//! value nests. [`Inputs`] is what values are offered to: a schema, with the values of its defaults. What
+//! literals share with such values is public too: scalars at a place, items, defaults and objects.
 #![tactic(auto)]
 
 mod depth;
+mod inputs;
 mod items;
 mod object;
 mod offers;
 mod scalars;
-mod types;
 
 pub use depth::is_deeper;
+pub use inputs::{Inputs, default_in};
+pub use items::{as_object, as_object_in, item_value, nothing_given, or_default};
 pub use object::ObjectBuilder;
 pub use offers::offered;
-pub use types::InputTypes;
+pub use scalars::{boolean_at, integer_at, name_at, null_at, string_at};

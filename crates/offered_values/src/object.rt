@@ -41,7 +41,7 @@ impl ObjectBuilder {
     }
 
     /// One member more, unless its name is there.
-    fn put(self, name: &Text, value: Value) -> Result<ObjectBuilder, Memory>
+    pub fn put(self, name: &Text, value: Value) -> Result<ObjectBuilder, Memory>
         ensures { IfOk result (λ r. r.members ≡ put self.members (name.now, value)) }
     {
         if self.has(name) {

@@ -8,10 +8,10 @@ ghost use Rattle.execution_model.specs.Inputs as inputs_spec;
 ghost use Rattle.execution_model.specs.Literals.{list_at, list_in};
 ghost use Rattle.execution_model.specs.Offers as spec;
 
+use crate::inputs::{Inputs, default_in};
 use crate::items::{as_object, as_object_in, item_value, or_default};
 use crate::object::ObjectBuilder;
 use crate::scalars::{boolean_at, integer_at, null_at, text_at};
-use crate::types::{InputTypes, default_in};
 use execution_model::Given;
 use gql_model::TypeRef;
 use gql_value::{Members, Value};
@@ -25,7 +25,7 @@ use text_types::{Items, Memory, Text};
 #[cycle(offers)]
 pub fn offered(
     alloc: Global,
-    inputs: &InputTypes<'_>,
+    inputs: &Inputs<'_>,
     value: &Value,
     wanted: Option<&TypeRef>,
 ) -> Result<Given, Memory>
@@ -44,7 +44,7 @@ pub fn offered(
 #[cycle(offers)]
 fn list_given(
     alloc: Global,
-    inputs: &InputTypes<'_>,
+    inputs: &Inputs<'_>,
     items: &[Value],
     wanted: Option<&TypeRef>,
 ) -> Result<Given, Memory>
@@ -59,7 +59,7 @@ fn list_given(
 #[cycle(offers)]
 fn list_in(
     alloc: Global,
-    inputs: &InputTypes<'_>,
+    inputs: &Inputs<'_>,
     items: &[Value],
     wanted: &TypeRef,
 ) -> Result<Given, Memory>
@@ -80,7 +80,7 @@ fn list_in(
 #[cycle(offers)]
 fn items_given(
     alloc: Global,
-    inputs: &InputTypes<'_>,
+    inputs: &Inputs<'_>,
     items: &[Value],
     wanted: Option<&TypeRef>,
 ) -> Result<Given, Memory>
@@ -100,7 +100,7 @@ fn items_given(
 #[cycle(offers)]
 fn object_given(
     alloc: Global,
-    inputs: &InputTypes<'_>,
+    inputs: &Inputs<'_>,
     members: &Members,
     wanted: Option<&TypeRef>,
 ) -> Result<Given, Memory>
@@ -115,7 +115,7 @@ fn object_given(
 #[cycle(offers)]
 fn object_in(
     alloc: Global,
-    inputs: &InputTypes<'_>,
+    inputs: &Inputs<'_>,
     members: &Members,
     wanted: &TypeRef,
 ) -> Result<Given, Memory>
@@ -131,7 +131,7 @@ fn object_in(
 #[cycle(offers)]
 fn known_members(
     alloc: Global,
-    inputs: &InputTypes<'_>,
+    inputs: &Inputs<'_>,
     members: &Members,
     declared: &Table<InputValue>,
     wanted: &TypeRef,
@@ -147,7 +147,7 @@ fn known_members(
 #[cycle(offers)]
 fn input_object(
     alloc: Global,
-    inputs: &InputTypes<'_>,
+    inputs: &Inputs<'_>,
     members: &Members,
     declared: &[(Text, InputValue)],
     wanted: &TypeRef,
@@ -163,7 +163,7 @@ fn input_object(
 #[cycle(offers)]
 fn free_object(
     alloc: Global,
-    inputs: &InputTypes<'_>,
+    inputs: &Inputs<'_>,
     members: &Members,
     wanted: &TypeRef,
 ) -> Result<Given, Memory>
@@ -176,7 +176,7 @@ fn free_object(
     as_object_in(alloc, wanted, members)
 }
 
-fn are_known(inputs: &InputTypes<'_>, declared: &Table<InputValue>, members: &Members) -> bool
+fn are_known(inputs: &Inputs<'_>, declared: &Table<InputValue>, members: &Members) -> bool
     ensures { result ≡ spec.are_known declared.now (map (λ m. (m.0, spec.offered inputs.now.defaults.now inputs.now.schema.now m.1)) members.now) }
 {
     all_are_known(declared, members.as_slice())
@@ -191,7 +191,7 @@ fn all_are_known(declared: &Table<InputValue>, members: &[(Text, Value)]) -> boo
 #[cycle(offers)]
 fn free_members(
     alloc: Global,
-    inputs: &InputTypes<'_>,
+    inputs: &Inputs<'_>,
     members: &Members,
 ) -> Result<Option<Members>, Memory>
     ensures { IfOk result (λ r. r ≡ inputs_spec.members_as_given (map (λ m. (m.0, spec.offered inputs.now.defaults.now inputs.now.schema.now m.1)) members.now)) }
@@ -210,7 +210,7 @@ fn free_members(
 #[cycle(offers)]
 fn input_members(
     alloc: Global,
-    inputs: &InputTypes<'_>,
+    inputs: &Inputs<'_>,
     members: &Members,
     declared: &[(Text, InputValue)],
     values: Option<&Table<Value>>,
@@ -232,7 +232,7 @@ fn input_members(
 #[cycle(offers)]
 fn field_given(
     alloc: Global,
-    inputs: &InputTypes<'_>,
+    inputs: &Inputs<'_>,
     members: &Members,
     declared: &(Text, InputValue),
     values: Option<&Table<Value>>,
@@ -247,7 +247,7 @@ fn field_given(
 #[cycle(offers)]
 fn member_given(
     alloc: Global,
-    inputs: &InputTypes<'_>,
+    inputs: &Inputs<'_>,
     members: &Members,
     declared: &(Text, InputValue),
 ) -> Result<Given, Memory>

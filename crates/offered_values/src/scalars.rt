@@ -32,7 +32,7 @@ fn list_of_one(alloc: Global, value: Value) -> Result<Value, Memory>
 }
 
 /// Null, which a nullable type takes.
-pub(crate) fn null_at(wanted: Option<&TypeRef>) -> Given
+pub fn null_at(wanted: Option<&TypeRef>) -> Given
     ensures { result ≡ null_at (option_copied wanted.entry) }
 {
     match wanted {
@@ -52,7 +52,7 @@ fn null_in(wanted: &TypeRef) -> Given
 }
 
 /// A whole number: an Int of 32 bits, a Float, an ID, which becomes its decimal text, or a custom scalar.
-pub(crate) fn integer_at(
+pub fn integer_at(
     alloc: Global,
     schema: &Schema,
     number: i64,
@@ -92,7 +92,7 @@ fn whole_number(alloc: Global, number: i64, name: &Text) -> Result<Value, Memory
     }
 }
 
-pub(crate) fn boolean_at(
+pub fn boolean_at(
     alloc: Global,
     schema: &Schema,
     truth: bool,
@@ -120,6 +120,24 @@ fn taken(alloc: Global, takes: bool, wanted: &TypeRef, value: Value) -> Result<G
     }
 }
 
+/// A string literal: a String, an ID or a custom scalar.
+pub fn string_at(
+    alloc: Global,
+    schema: &Schema,
+    text: &Text,
+    wanted: Option<&TypeRef>,
+) -> Result<Given, Memory>
+    ensures { IfOk result (λ given. given ≡ as_given (spec.string_at schema.now text.now (option_copied wanted.entry))) }
+{
+    match wanted {
+        Some(wanted) => {
+            let takes = takes_string(schema, named_type(wanted));
+            text_taken(alloc, takes, wanted, text)
+        }
+        None => Ok(Given::Is(Value::Text(text.copy()?))),
+    }
+}
+
 fn text_taken(alloc: Global, takes: bool, wanted: &TypeRef, text: &Text) -> Result<Given, Memory>
     ensures { IfOk result (λ given. given ≡ as_given (spec.value_if takes wanted.now (Value.Text text.now))) }
 {
@@ -127,6 +145,25 @@ fn text_taken(alloc: Global, takes: bool, wanted: &TypeRef, text: &Text) -> Resu
         Ok(Given::Is(in_lists(alloc, wanted, Value::Text(text.copy()?))?))
     } else {
         Ok(Given::Refused)
+    }
+}
+
+/// A name in a document: one of an enum's, or a custom scalar, where it becomes its text.
+pub fn name_at(
+    alloc: Global,
+    schema: &Schema,
+    word: &Text,
+    wanted: Option<&TypeRef>,
+) -> Result<Given, Memory>
+    ensures { IfOk result (λ given. given ≡ as_given (spec.name_at schema.now word.now (option_copied wanted.entry))) }
+{
+    match wanted {
+        Some(wanted) => {
+            let name = named_type(wanted);
+            let takes = enum_takes(schema, word, name) || takes_any(schema, name);
+            text_taken(alloc, takes, wanted, word)
+        }
+        None => Ok(Given::Is(Value::Text(word.copy()?))),
     }
 }
 

@@ -9,9 +9,8 @@ use crate::defaults::{not_given, values_of_none};
 use crate::scope::member_named;
 use answer_parts::MemberIndex;
 use execution_model::Given;
-use gql_coercion::Inputs;
 use gql_value::{Members, Value};
-use offered_values::{InputTypes, ObjectBuilder, offered};
+use offered_values::{Inputs, ObjectBuilder, offered};
 use schema_model::{InputValue, Table};
 use std::alloc::Global;
 use text_types::{Memory, Text};
@@ -76,11 +75,8 @@ fn argument_given(
 {
     match member_named(values, defined.0.as_str()) {
         Some(value) => {
-            let types = InputTypes {
-                schema: inputs.schema,
-                defaults: inputs.defaults,
-            };
-            offered(alloc, &types, value, Some(&defined.1.input_type.type_ref))
+            let wanted = &defined.1.input_type.type_ref;
+            offered(alloc, inputs, value, Some(wanted))
         }
         None => Ok(Given::Absent),
     }

@@ -4,8 +4,9 @@ use Rattle.std.specs.Option.{option_map}
 use Rattle.gql_model.specs.declared.literal.ObjectField.{out-ObjectField}
 use Rattle.execution_model.specs.Inputs.{next_members}
 use Rattle.execution_model.specs.Literals.{object_field_meaning}
-use Rattle.gql_coercion.specs.declared.object.ObjectBuilder.{ObjectBuilder}
-use Rattle.gql_coercion.proofs.IntoLaws.{free_next, field_is}
+use Rattle.offered_values.specs.declared.object.ObjectBuilder.{ObjectBuilder}
+use Rattle.offered_values.proofs.IntoLaws.{free_next}
+use Rattle.gql_coercion.proofs.FieldLaws.{field_is}
 use Rattle.gql_coercion.proofs.literals.+literals.Goals as goal
 
 pub free_members-fields-preserved : goal.free_members-fields-preserved

@@ -13,14 +13,14 @@ use text_types::Text;
 /// A schema with the values of its defaults: by the name of an input object type, and then by the name
 /// of a field.
 #[derive(Drop)]
-pub struct InputTypes<'a> {
+pub struct Inputs<'a> {
     pub schema: &'a Schema,
     pub defaults: &'a Table<Table<Value>>,
 }
 
-impl<'a> InputTypes<'a> {
+impl<'a> Inputs<'a> {
     /// The fields of the input object type of a name.
-    pub(crate) fn fields(&self, name: &Text) -> Option<&'a Table<InputValue>>
+    pub fn fields(&self, name: &Text) -> Option<&'a Table<InputValue>>
         ensures { option_copied result ≡ input_fields_named self.now.schema.now name.now }
     {
         match self.schema.types.get(name) {
@@ -30,7 +30,7 @@ impl<'a> InputTypes<'a> {
     }
 
     /// The values of the defaults of the type that is named under all lists.
-    pub(crate) fn values(&self, wanted: &TypeRef) -> Option<&'a Table<Value>>
+    pub fn values(&self, wanted: &TypeRef) -> Option<&'a Table<Value>>
         ensures { option_copied result ≡ entry self.now.defaults.now (named_type wanted.now) }
     {
         self.defaults.get(named_type(wanted))
@@ -38,7 +38,7 @@ impl<'a> InputTypes<'a> {
 }
 
 /// The value of the default of a field, where the defaults of its type's fields have these values.
-pub(crate) fn default_in<'a>(values: Option<&'a Table<Value>>, field: &Text) -> Option<&'a Value>
+pub fn default_in<'a>(values: Option<&'a Table<Value>>, field: &Text) -> Option<&'a Value>
     ensures { option_copied result ≡ default_in (option_copied values.entry) field.now }
 {
     match values {
