@@ -50,6 +50,7 @@ fn default_given(
     }
 }
 
+/// What stands for a field that has neither a value nor a default: a refusal where it is Non-Null, else nothing.
 pub fn nothing_given(input: &InputValue) -> Given
     ensures { result ≡ spec.default_given input.now Option.None }
 {

@@ -19,6 +19,7 @@ pub struct ObjectBuilder {
 }
 
 impl ObjectBuilder {
+    /// An object without members.
     pub fn new(alloc: Global) -> ObjectBuilder
         ensures { result.members ≡ [] }
     {
@@ -28,6 +29,7 @@ impl ObjectBuilder {
         }
     }
 
+    /// The members, in the order in which they came.
     pub fn into_members(self) -> Members
         ensures { result ≡ self.members }
     {

@@ -92,6 +92,7 @@ fn whole_number(alloc: Global, number: i64, name: &Text) -> Result<Value, Memory
     }
 }
 
+/// A truth value: a Boolean, or a custom scalar.
 pub fn boolean_at(
     alloc: Global,
     schema: &Schema,
