@@ -1,6 +1,6 @@
 use gql_value::{
-    Fault, JsonError, Members, Outcome, Value, Values, from_json, outcome_of, sorted_text,
-    write_quoted, write_text,
+    Fault, JsonError, Members, Outcome, Value, Values, from_json, outcome_of, push_sorted_members,
+    sorted_text, write_quoted, write_text,
 };
 use std::alloc::Global;
 use std::test::Fail;
@@ -118,6 +118,9 @@ fn members_keep_their_order_or_are_sorted(rt: HostRuntime) -> Result<(), Fail> {
     let mut members = Members::new(rt.alloc());
     members.push(Text::from_str(rt.alloc(), "b")?, Value::Obj(inner))?;
     members.push(Text::from_str(rt.alloc(), "a")?, Value::Int(1))?;
+    let mut key = Text::from_str(rt.alloc(), "key")?;
+    push_sorted_members(rt.alloc(), &members, &mut key)?;
+    assert_eq!(rt; key.as_str(), "key{\"a\":1,\"b\":{\"c\":[],\"d\":null}}");
     let value = Value::Obj(members);
     let mut out = Bytes::new(rt.alloc());
     write_text(&value, &mut out)?;

@@ -1,9 +1,8 @@
 ghost use Rattle.std.specs.Prelude.{◌≡◌, IfOk};
 ghost use Rattle.entity_keys.specs.Fields.{field_key_text};
 
-use crate::arguments::push_arguments;
 use cache_model::FieldKey;
-use gql_value::Members;
+use gql_value::{Members, push_sorted_members};
 use text_types::{Memory, Text};
 
 /// The key of a field with these arguments: its name, and behind it the sorted text of the
@@ -17,7 +16,7 @@ pub fn field_key(name: &Text, args: &Members) -> Result<FieldKey, Memory>
     }
     let mut key = name.copy()?;
     key.push_str("(")?;
-    push_arguments(&mut key, args)?;
+    push_sorted_members(key.allocator(), args, &mut key)?;
     key.push_str(")")?;
     Ok(FieldKey::from_text(key))
 }

@@ -9,7 +9,6 @@
 //! [`Steps`].
 #![tactic(auto)]
 
-mod arguments;
 mod coverage;
 mod entity;
 mod escapes;

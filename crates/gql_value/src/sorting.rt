@@ -1,4 +1,4 @@
-ghost use Rattle.std.specs.Prelude.{◌≡◌, [], ◌∷◌, ◌++◌, ◌==◌, IfOk, OnOk, map, codes, if◌then◌else◌};
+ghost use Rattle.std.specs.Prelude.{◌≡◌, [], ◌∷◌, ◌++◌, ◌==◌, IfOk, OnOk, OnErr, map, codes, if◌then◌else◌};
 ghost use Rattle.gql_value.specs.Text.{quoted, list_text, object_text};
 ghost use Rattle.gql_value.specs.Sorted.{by_name, sorted_text_of};
 
@@ -17,6 +17,18 @@ pub fn sorted_text(alloc: Global, value: &Value) -> Result<Text, Memory>
     let mut out = Text::new(alloc);
     push_sorted(alloc, value, &mut out)?;
     Ok(out)
+}
+
+/// Appends the compact text of an object of these members, `{"name":value,..}`, in the order of the
+/// bytes of their names, at every depth. The one error is want of memory, and it leaves the text as it
+/// was.
+pub fn push_sorted_members(alloc: Global, members: &Members, out: &mut Text) -> Result<(), Memory>
+    ensures ok { OnOk result (out.new ≡ out.old ++ object_text (by_name (map (λ m. (m.0, sorted_text_of m.1)) members.now))) }
+    ensures err { OnErr result (out.new ≡ out.old) }
+{
+    let mut object = Text::new(alloc);
+    push_sorted_object(alloc, members, &mut object)?;
+    out.push(&object)
 }
 
 #[cycle(sorted)]
