@@ -1,7 +1,7 @@
 -- What is told of a judged dispatch.
 use Rattle.std.proofs.Common.{◌≡◌, ℕ, List, ◌++◌, Option, Result, Ok, Err, ap, sym, subst, ◌∙◌}
 use Rattle.std.specs.Prelude.{IfOk, IfErr, OnOk}
-use Rattle.frame_reading.specs.Values.{Pairs}
+use Rattle.gql_value.specs.Values.{Pairs}
 use Rattle.schema_model.specs.Tables.{tabled}
 use Rattle.machine_model.specs.declared.output.Refusal.{Refusal}
 use Rattle.frame_reading.specs.Frames.{Dispatch}

@@ -1,2 +1,1 @@
 pub mod JsonLaws
-pub mod ValueLaws

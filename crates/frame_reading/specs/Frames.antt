@@ -4,10 +4,11 @@ use Rattle.std.specs.Str.{is_utf8}
 use Rattle.serde_json.specs.Data.{Data}
 use Rattle.serde_json.specs.Read.{read}
 use Rattle.serde_json.specs.Find.{get}
+use Rattle.gql_value.specs.Values.{Pairs}
+use Rattle.gql_value.specs.Members.{number_in, text_in}
 use Rattle.machine_model.specs.declared.output.Refusal.{Refusal}
 use Rattle.machine_model.specs.declared.output.Refusal.TheVariants.{E3}
-use Rattle.frame_reading.specs.Values.{Pairs}
-use Rattle.frame_reading.specs.Members.{number_in, text_in, text_if_given, object_if_given, required, variables_of}
+use Rattle.frame_reading.specs.Members.{text_if_given, object_if_given, required, variables_of}
 
 -- an operation that a client asks for under its id: a document, the name of an operation in it, and values for its variables
 -- (GraphQL over HTTP, request parameters)

@@ -1,4 +1,3 @@
-pub mod Values
 pub mod Members
 pub mod Frames
 pub mod Errors

@@ -1,28 +1,10 @@
 -- What is read of the members of a frame.
-use Rattle.std.specs.Prelude.{ℕ, ℤ, pos, negsuc, List, [], ◌++◌, codes, Option, Some, None, Result, Ok, Err, option_map, option_and_then}
+use Rattle.std.specs.Prelude.{ℕ, List, [], ◌++◌, codes, Option, Some, None, Result, Ok, Err, option_map}
 use Rattle.serde_json.specs.Data.{Data, null, boolean, number, string, array, object}
-use Rattle.serde_json.specs.Find.{as_i64, as_number, as_str, get}
 use Rattle.gql_value.specs.Json.{not_whole, dotted}
+use Rattle.gql_value.specs.Values.{Pairs, pairs_in}
 use Rattle.machine_model.specs.declared.output.Refusal.{Refusal}
 use Rattle.machine_model.specs.declared.output.Refusal.TheVariants.{E3, E11}
-use Rattle.frame_reading.specs.Values.{Pairs, pairs_in}
-
--- a number from 0, and not a negative one
-abbrev pub from_zero : ℤ → Option ℕ
-from_zero (pos n) = Some n
-from_zero (negsuc n) = None
-
--- a whole number from 0
-abbrev pub number_of : Data → Option ℕ
-number_of value = option_and_then from_zero (option_and_then as_i64 (as_number value))
-
--- the whole number from 0 that a member is
-abbrev pub number_in : List ℕ → Data → Option ℕ
-number_in name value = option_and_then number_of (get name value)
-
--- the text that a member is
-abbrev pub text_in : List ℕ → Data → Option (List ℕ)
-text_in name value = option_and_then as_str (get name value)
 
 -- the text of a member that may be left out, or null in its place
 abbrev pub text_if_given : Option Data → Option (Option (List ℕ))

@@ -3,7 +3,7 @@
 ghost use Rattle.std.specs.Prelude.{◌≡◌, option_map};
 ghost use Rattle.serde_json.specs.Find.{get};
 ghost use Rattle.serde_json.specs.View.{view};
-ghost use Rattle.frame_reading.specs.Members.{number_in, text_in};
+ghost use Rattle.gql_value.specs.Members.{number_in, text_in};
 
 use serde_json::Value as Json;
 

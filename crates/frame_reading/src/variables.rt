@@ -4,7 +4,7 @@ ghost use Rattle.std.specs.Prelude.{◌≡◌, ◌++◌, IfOk, IfErr, Ok, Err, S
 ghost use Rattle.serde_json.specs.View.{view};
 ghost use Rattle.machine_model.specs.declared.output.Refusal.TheVariants.{E11};
 ghost use Rattle.gql_value.specs.Json.{data_of};
-ghost use Rattle.frame_reading.specs.Values.{Pairs, pairs_in};
+ghost use Rattle.gql_value.specs.Values.{Pairs, pairs_in};
 ghost use Rattle.frame_reading.specs.Members as spec;
 ghost use Rattle.frame_reading.specs.Errors.{IsFrameError};
 

@@ -1,3 +1,2 @@
 pub mod DepthLaws
 pub mod FollowUpLaws
-pub mod ValueLaws

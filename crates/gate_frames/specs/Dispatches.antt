@@ -4,14 +4,15 @@ use Rattle.std.specs.declared.result.Result.TheVariants.{Ok, Err}
 use Rattle.serde_json.specs.Data.{Data, null, boolean, number, string, array, object, Items, no_items, item, Members, no_members, member}
 use Rattle.serde_json.specs.Find.{get}
 use Rattle.gql_value.specs.Json.{not_whole, dotted}
+use Rattle.gql_value.specs.Values.{Pairs, pairs_in}
+use Rattle.gql_value.specs.Members.{number_in, text_in}
 use Rattle.send_rules.specs.declared.policy.Policy.TheVariants.{CacheFirst}
 use Rattle.machine_model.specs.declared.command.Command.{Command}
 use Rattle.machine_model.specs.declared.command.Command.TheVariants as command
 use Rattle.machine_model.specs.declared.command.Dispatch.{Dispatch, roll-Dispatch}
 use Rattle.gate_frames.specs.declared.kind.FrameKind.{FrameKind}
 use Rattle.gate_frames.specs.declared.kind.FrameKind.TheVariants as kind
-use Rattle.gate_frames.specs.Values.{Pairs, value_of, pairs_in}
-use Rattle.gate_frames.specs.Members.{number_in, text_in, is_text_or_null, is_object_or_null, absent_or, policy_of, first_misfit}
+use Rattle.gate_frames.specs.Members.{is_text_or_null, is_object_or_null, absent_or, policy_of, first_misfit}
 
 -- the kind of frame that the member `do` names
 abbrev pub kind_named : List ℕ → Option FrameKind
@@ -93,7 +94,7 @@ Read X = Result X (List ℕ)
 
 -- variables whose numbers are whole, where the first other one is given
 abbrev pub variables_beside : Data → Option (List (List ℕ)) → Read Pairs
-variables_beside variables None = Ok (pairs_in (value_of variables))
+variables_beside variables None = Ok (pairs_in variables)
 variables_beside variables (Some steps) = Err (codes "variables." ++ dotted steps)
 
 -- none where the member is absent or null

@@ -7,7 +7,8 @@ use Rattle.gql_value.specs.declared.outcome.Fault.TheVariants.{F6}
 use Rattle.gql_value.specs.declared.outcome.Fault.{Fault}
 use Rattle.gql_value.specs.declared.outcome.Outcome.{Outcome}
 use Rattle.gql_value.specs.declared.outcome.Outcome.TheVariants as outcome
-use Rattle.gql_value.specs.Outcome.{Meaning, bad, json_of, status_fault, outcome_of_data, outcome_meaning}
+use Rattle.gql_value.specs.Outcome.{Meaning, bad, outcome_from, json_of, status_fault, outcome_of_data, outcome_meaning}
+use Rattle.gql_value.specs.Members.{number_in}
 use Rattle.machine_model.specs.declared.command.Command.TheVariants as command
 use Rattle.machine_model.specs.declared.command.Dispatch.{Dispatch}
 use Rattle.machine_model.specs.declared.output.Out.TheVariants as out
@@ -17,8 +18,7 @@ use Rattle.gate_frames.specs.declared.framed.Framed.{Framed}
 use Rattle.gate_frames.specs.declared.framed.Framed.TheVariants.{Run, Quit, Refused}
 use Rattle.gate_frames.specs.declared.kind.FrameKind.{FrameKind}
 use Rattle.gate_frames.specs.declared.kind.FrameKind.TheVariants as kind
-use Rattle.gate_frames.specs.Values.{outcome_from}
-use Rattle.gate_frames.specs.Members.{number_in, status_of}
+use Rattle.gate_frames.specs.Members.{status_of}
 use Rattle.gate_frames.specs.Dispatches.{Read, kind_of, dispatch_misfit, dispatch_read}
 
 -- a line that changes nothing

@@ -1,4 +1,3 @@
-pub mod Values
 pub mod Members
 pub mod Dispatches
 pub mod Frames

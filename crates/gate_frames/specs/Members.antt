@@ -1,26 +1,10 @@
 -- What is read of one member of a frame, and which member is the first of the wrong form.
-use Rattle.std.specs.Prelude.{ℕ, ℤ, pos, negsuc, Bool, true, false, ◌&&◌, nat_le, if◌then◌else◌, List, [], ◌∷◌, codes, bytes_eq, Option, Some, None, option_and_then}
+use Rattle.std.specs.Prelude.{ℕ, Bool, true, false, ◌&&◌, nat_le, if◌then◌else◌, List, [], ◌∷◌, codes, bytes_eq, Option, Some, None, option_and_then}
 use Rattle.serde_json.specs.Data.{Data, null, boolean, number, string, array, object}
-use Rattle.serde_json.specs.Find.{as_i64, as_number, as_str, get}
+use Rattle.serde_json.specs.Find.{as_str}
+use Rattle.gql_value.specs.Members.{number_of}
 use Rattle.send_rules.specs.declared.policy.Policy.{Policy}
 use Rattle.send_rules.specs.declared.policy.Policy.TheVariants.{CacheFirst, CacheOnly, NetworkOnly, CacheAndNetwork}
-
--- a number from 0 on
-abbrev pub from_zero : ℤ → Option ℕ
-from_zero (pos n) = Some n
-from_zero (negsuc n) = None
-
--- a whole number from 0 on: JSON without fraction and exponent, below 2^63
-abbrev pub number_of : Data → Option ℕ
-number_of value = option_and_then from_zero (option_and_then as_i64 (as_number value))
-
--- the number that a member is
-abbrev pub number_in : List ℕ → Data → Option ℕ
-number_in name frame = option_and_then number_of (get name frame)
-
--- the text that a member is
-abbrev pub text_in : List ℕ → Data → Option (List ℕ)
-text_in name frame = option_and_then as_str (get name frame)
 
 -- a text or null
 abbrev pub is_text_or_null : Data → Bool

@@ -3,7 +3,7 @@
 ghost use Rattle.std.specs.Prelude.{◌≡◌, Some, IfOk, codes};
 ghost use Rattle.serde_json.specs.View.{view};
 ghost use Rattle.gql_value.specs.Outcome.{json_of};
-ghost use Rattle.gate_frames.specs.Members as members;
+ghost use Rattle.gql_value.specs.Members as members;
 ghost use Rattle.gate_frames.specs.Dispatches as dispatches;
 ghost use Rattle.gate_frames.specs.Frames as spec;
 

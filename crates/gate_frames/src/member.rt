@@ -2,6 +2,7 @@
 
 ghost use Rattle.std.specs.Prelude.{◌≡◌, option_map};
 ghost use Rattle.serde_json.specs.View.{view};
+ghost use Rattle.gql_value.specs.Members as members;
 ghost use Rattle.gate_frames.specs.Members as spec;
 
 use send_rules::Policy;
@@ -9,20 +10,20 @@ use serde_json::Value as Json;
 
 /// The text that a member is, where it is one.
 pub(crate) fn member_text<'a>(frame: &'a Json, name: &str) -> Option<&'a str>
-    ensures { option_map (λ text. text.now) result ≡ spec.text_in name.now (view frame.now) }
+    ensures { option_map (λ text. text.now) result ≡ members.text_in name.now (view frame.now) }
 {
     frame.get(name)?.as_str()
 }
 
 /// The whole number from 0 that a member is, where it is one.
 pub(crate) fn member_number(frame: &Json, name: &str) -> Option<u64>
-    ensures { result ≡ spec.number_in name.now (view frame.now) }
+    ensures { result ≡ members.number_in name.now (view frame.now) }
 {
     number_of(frame.get(name)?)
 }
 
 fn number_of(value: &Json) -> Option<u64>
-    ensures { result ≡ spec.number_of (view value.now) }
+    ensures { result ≡ members.number_of (view value.now) }
 {
     u64::try_from(value.as_i64()?).ok()
 }

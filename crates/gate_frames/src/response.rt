@@ -2,8 +2,7 @@
 
 ghost use Rattle.std.specs.Prelude.{◌≡◌, Some, IfOk, option_map};
 ghost use Rattle.serde_json.specs.View.{view};
-ghost use Rattle.gql_value.specs.Outcome.{status_fault};
-ghost use Rattle.gate_frames.specs.Values.{outcome_from};
+ghost use Rattle.gql_value.specs.Outcome.{outcome_from, status_fault};
 ghost use Rattle.gate_frames.specs.Frames as spec;
 
 use gql_value::{Outcome, fault_of_status, outcome_of, outcome_of_json};

@@ -2,8 +2,8 @@
 
 ghost use Rattle.std.specs.Prelude.{◌≡◌, ◌++◌, Ok, IfOk, IfErr, option_map, codes};
 ghost use Rattle.serde_json.specs.View.{view};
-ghost use Rattle.gql_value.specs.Json.{not_whole};
-ghost use Rattle.gate_frames.specs.Values.{pairs_in};
+ghost use Rattle.gql_value.specs.Json.{data_of, not_whole};
+ghost use Rattle.gql_value.specs.Values.{pairs_in};
 ghost use Rattle.gate_frames.specs.Dispatches as spec;
 ghost use Rattle.gate_frames.specs.Unread.{TellsPath};
 
@@ -39,7 +39,7 @@ fn read_whole(alloc: Global, variables: &Json) -> Result<Members, Unread>
 
 /// The members of an object, and none of anything else.
 fn members_in(alloc: Global, value: Value) -> Members
-    ensures { result ≡ pairs_in value }
+    ensures { result ≡ pairs_in (data_of value) }
 {
     match value {
         Value::Obj(members) => members,

@@ -4,3 +4,4 @@ pub mod Joining
 pub mod KeyOrder
 pub mod NameOrder
 pub mod Responses
+pub mod ValueLaws

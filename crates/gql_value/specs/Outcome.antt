@@ -7,6 +7,7 @@ use Rattle.serde_json.specs.Data.{Data, null, boolean, number, string, array, ob
 use Rattle.serde_json.specs.Find.{get, as_str}
 use Rattle.serde_json.specs.Read.{read}
 use Rattle.gql_value.specs.Json.{data_of, is_whole, behind, not_whole, dotted}
+use Rattle.gql_value.specs.Values.{value_of}
 use Rattle.gql_value.specs.declared.outcome.Fault.{Fault}
 use Rattle.gql_value.specs.declared.outcome.Fault.TheVariants.{F1, F2, F3, F4, F5, F6}
 use Rattle.gql_value.specs.declared.outcome.Outcome.{Outcome}
@@ -21,6 +22,11 @@ pub data Meaning : Type 0 where
 abbrev pub meaning_of : Outcome → Meaning
 meaning_of (outcome.Body answer errors) = body (data_of answer) (data_of errors)
 meaning_of (outcome.Bad fault) = bad fault
+
+-- the outcome that is meant, where its numbers are whole
+abbrev pub outcome_from : Meaning → Outcome
+outcome_from (body answer errors) = outcome.Body (value_of answer) (value_of errors)
+outcome_from (bad fault) = outcome.Bad fault
 
 -- a member of the body, where it may be absent; a value that isn't an object has none
 abbrev pub or_null : Option Data → Data

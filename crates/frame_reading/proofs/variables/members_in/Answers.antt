@@ -1,4 +1,4 @@
-use Rattle.frame_reading.proofs.ValueLaws.{members_told}
+use Rattle.gql_value.proofs.ValueLaws.{members_told}
 use Rattle.frame_reading.proofs.variables.members_in.Goals as goal
 
 pub returns-in-Obj : goal.returns-in-Obj

@@ -1,10 +1,9 @@
 use Rattle.std.proofs.Common.{◌≡◌, ◌∙◌, ap}
 use Rattle.std.proofs.lemmas.Result.{IfOk-weaker}
 use Rattle.serde_json.specs.View.{view}
-use Rattle.gql_value.specs.Outcome.{meaning_of, outcome_of_data, status_fault}
-use Rattle.gate_frames.specs.Values.{outcome_from}
+use Rattle.gql_value.specs.Outcome.{meaning_of, outcome_from, outcome_of_data, status_fault}
+use Rattle.gql_value.proofs.ValueLaws.{outcome_read}
 use Rattle.gate_frames.specs.Frames.{body_beside}
-use Rattle.gate_frames.proofs.ValueLaws.{outcome_read}
 use Rattle.gate_frames.proofs.response.outcome_of_body.Goals as goal
 
 pub returns-in-None : goal.returns-in-None

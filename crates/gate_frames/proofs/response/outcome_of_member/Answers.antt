@@ -1,7 +1,6 @@
 use Rattle.std.proofs.Common.{◌∙◌, ap, sym, Some}
-use Rattle.gql_value.specs.Outcome.{outcome_meaning}
-use Rattle.gate_frames.specs.Values.{outcome_from}
-use Rattle.gate_frames.proofs.ValueLaws.{outcome_read}
+use Rattle.gql_value.specs.Outcome.{outcome_from, outcome_meaning}
+use Rattle.gql_value.proofs.ValueLaws.{outcome_read}
 use Rattle.gate_frames.proofs.response.outcome_of_member.Goals as goal
 
 pub returns-in_ok-outcome_of-in-Some : goal.returns-in_ok-outcome_of-in-Some

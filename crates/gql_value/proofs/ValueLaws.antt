@@ -1,6 +1,7 @@
--- The value that a value's data is, is the value itself.
+-- The value that a value's data is, is the value itself, and so it is with outcomes and what they mean.
 use Rattle.std.proofs.Common.{◌≡◌, ℕ, List, [], ◌∷◌, map, refl, sym, ap, ap₂, subst, ◌∙◌}
 use Rattle.std.specs.Prelude.{ℤ, pos, negsuc}
+use Rattle.serde_json.specs.Data.{Data}
 use Rattle.serde_json.specs.Find.{of_integer}
 use Rattle.serde_json.specs.View.{items_of}
 use Rattle.gql_value.specs.declared.value.Value.{Value, map-Value}
@@ -8,9 +9,12 @@ use Rattle.gql_value.specs.declared.value.Value.TheFolds.{fold-roll-Value, ind-V
 use Rattle.gql_value.specs.declared.value.Value.TheOpen.{Value-F}
 use Rattle.gql_value.specs.declared.value.Value.TheViews.{roll-Value}
 use Rattle.gql_value.specs.declared.value.Value.TheVariants.{Obj, rolls-Obj}
-use Rattle.serde_json.specs.Data.{Data}
+use Rattle.gql_value.specs.declared.outcome.Outcome.{Outcome}
+use Rattle.gql_value.specs.declared.outcome.Outcome.TheVariants as outcome
 use Rattle.gql_value.specs.Json.{data_of, data_step, members_of}
-use Rattle.frame_reading.specs.Values.{Pairs, integer_of, value_of, values_of, pairs_of, pairs_in}
+use Rattle.gql_value.specs.Outcome.{Meaning, meaning_of, outcome_from}
+use Rattle.gql_value.specs.Values.{Pairs, integer_of, value_of, values_of, pairs_of, pairs_in}
+use Rattle.gql_value.proofs.Conversion.{named_data}
 
 -- reading its data gives the value back
 abbrev ComesBack : Value → Type 0
@@ -26,9 +30,6 @@ Back = (v : Value) × ComesBack v
 
 abbrev value_in : Back → Value
 value_in e = e.0
-
-abbrev named_data : List ℕ × Value → List ℕ × Data
-named_data m = (m.0, data_of m.1)
 
 abbrev named_value : List ℕ × Back → List ℕ × Value
 named_value m = (m.0, value_in m.1)
@@ -66,3 +67,11 @@ members_told v ms is =
     sym (pairs_back ms)
     ∙ ap pairs_in (sym (fold-roll-Value Data data_step (Value-F.Obj ms)))
     ∙ ap (λ w. pairs_in (data_of w)) (rolls-Obj ms ∙ sym is)
+
+outcome_back : (o : Outcome) → outcome_from (meaning_of o) ≡ o
+outcome_back (outcome.Body answer errors) = ap₂ outcome.Body (value_back answer) (value_back errors)
+outcome_back (outcome.Bad fault) = refl
+
+-- the outcome that was read is the one that is meant
+pub outcome_read : (o : Outcome) (m : Meaning) → meaning_of o ≡ m → o ≡ outcome_from m
+outcome_read o m e = sym (outcome_back o) ∙ ap outcome_from e
