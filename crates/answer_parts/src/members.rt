@@ -17,6 +17,7 @@ pub struct MemberIndex<'a> {
 }
 
 impl<'a> MemberIndex<'a> {
+    /// The index of these members. The one error is want of memory.
     pub fn new(alloc: Global, members: &'a Members) -> Result<MemberIndex<'a>, Memory>
         ensures { IfOk result (λ index. index.members.now ≡ members.now) }
     {

@@ -24,12 +24,14 @@ impl Model for EntityKey {
 }
 
 impl EntityKey {
+    /// The key with this text.
     pub fn from_text(text: Text) -> EntityKey
         ensures { result ≡ text }
     {
         EntityKey { text }
     }
 
+    /// The key's text.
     pub fn as_text(&self) -> &Text
         ensures { result.now ≡ self.now }
     {
@@ -107,12 +109,14 @@ impl Model for FieldKey {
 }
 
 impl FieldKey {
+    /// The key with this text.
     pub fn from_text(text: Text) -> FieldKey
         ensures { result ≡ text }
     {
         FieldKey { text }
     }
 
+    /// The key's text.
     pub fn as_text(&self) -> &Text
         ensures { result.now ≡ self.now }
     {

@@ -20,6 +20,8 @@ use std::alloc::Global;
 use text_types::{Items, Memory, Text};
 
 impl<'a> Asking<'a> {
+    /// What a checked operation asks, with the values of its variables and the flags of the sets that get
+    /// `__typename` at their front. The one error is want of memory.
     pub fn new(
         alloc: Global,
         inputs: Inputs<'a>,

@@ -93,6 +93,7 @@ impl<T> Failing<T> {
 }
 
 impl FailingSource {
+    /// A source of these bytes, in pieces of at most `piece`, whose listed calls fail, counted from 1.
     pub fn new(bytes: Bytes, piece: usize, fail_at: Vec<u64>) -> FailingSource
         requires { 0 < piece }
         ensures { result ≡ uncalled (unread bytes piece) fail_at.items }
@@ -109,6 +110,8 @@ impl FailingSource {
 }
 
 impl FailingSink {
+    /// A sink with room for so many bytes, taken in pieces of at most `piece`, whose listed calls fail, counted
+    /// from 1. The one error is want of memory.
     pub fn new(
         alloc: Global,
         room: usize,
@@ -130,6 +133,7 @@ impl FailingSink {
 }
 
 impl FailingShelf {
+    /// A shelf of these files whose listed calls fail, counted from 1.
     pub fn new(files: Named<Bytes>, fail_at: Vec<u64>) -> FailingShelf
         ensures { result ≡ uncalled (unvisited files) fail_at.items }
     {

@@ -18,6 +18,8 @@ use text_types::{Bytes, Memory, Text};
 pub type FailingDisk = Failing<MemoryDisk>;
 
 impl FailingDisk {
+    /// A disk that holds these bytes, with room in all for so many, whose listed calls fail, counted from 1.
+    /// The one error is want of memory.
     pub fn new(
         alloc: Global,
         bytes: Bytes,

@@ -23,6 +23,7 @@ impl Model for MemoryShelf {
 }
 
 impl MemoryShelf {
+    /// A shelf of these files.
     pub fn new(files: Named<Bytes>) -> MemoryShelf
         ensures { result ≡ unvisited files }
     {

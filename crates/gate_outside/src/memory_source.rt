@@ -31,6 +31,7 @@ impl Model for MemorySource {
 }
 
 impl MemorySource {
+    /// A source of these bytes that gives at most `piece` of them, which is at least 1, at a time.
     pub fn new(bytes: Bytes, piece: usize) -> MemorySource
         requires { 0 < piece }
         ensures { result ≡ unread bytes piece }

@@ -8,6 +8,7 @@ pub struct Document {
     pub definitions: Items<Definition>,
 }
 
+/// A definition of a document (GraphQL October 2021, 2.2).
 #[derive(Drop)]
 pub enum Definition {
     Operation(Operation),

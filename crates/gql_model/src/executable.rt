@@ -5,6 +5,7 @@ use crate::type_ref::TypeNode;
 use gql_tokens::Place;
 use text_types::Items;
 
+/// The kind of an operation (GraphQL October 2021, 2.3).
 #[derive(Clone, Copy, Debug, PartialEq, Eq)]
 pub enum OperationKind {
     Query,

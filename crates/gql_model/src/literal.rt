@@ -10,6 +10,7 @@ pub struct Literal {
     pub value: LiteralValue,
 }
 
+/// What a literal is (GraphQL October 2021, 2.9).
 #[cycle(literals)]
 #[derive(Drop)]
 pub enum LiteralValue {

@@ -26,6 +26,7 @@ pub struct SelectionSet {
     pub selections: Items<Selection>,
 }
 
+/// A selection (GraphQL October 2021, 2.4): a field, a spread of a fragment, or an inline fragment.
 #[cycle(selections)]
 #[derive(Drop)]
 pub enum Selection {

@@ -14,6 +14,7 @@ pub struct TypeSystem {
     pub form: TypeSystemForm,
 }
 
+/// What a type system definition defines (GraphQL October 2021, 3).
 #[derive(Drop)]
 pub enum TypeSystemForm {
     Schema(SchemaDefinition),

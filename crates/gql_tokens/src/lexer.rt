@@ -31,6 +31,7 @@ impl<'a> Model for Lexer<'a> {
 }
 
 impl<'a> Lexer<'a> {
+    /// A cursor at the first token of a text. Takes no memory.
     pub fn new(text: &'a [u8]) -> Lexer<'a>
         ensures { result ≡ tokens_of text.now }
     {

@@ -14,6 +14,7 @@ pub struct Input<R> {
 }
 
 impl<R: Read> Input<R> {
+    /// An input of which nothing was taken yet.
     pub fn new(reader: R) -> Input<R> {
         Input {
             reader,

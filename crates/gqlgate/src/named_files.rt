@@ -20,6 +20,7 @@ pub struct NamedFiles<'a, R> {
 }
 
 impl<'a, R: Files> NamedFiles<'a, R> {
+    /// The system's files, of which none was asked for yet.
     pub fn new(rt: &'a R) -> NamedFiles<'a, R> {
         NamedFiles {
             rt,

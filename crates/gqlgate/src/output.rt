@@ -12,6 +12,7 @@ pub struct Output<W> {
 }
 
 impl<W: Write> Output<W> {
+    /// An output to which nothing was written yet.
     pub fn new(writer: W) -> Output<W> {
         Output { writer, faults: 0 }
     }

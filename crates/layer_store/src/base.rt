@@ -23,6 +23,7 @@ pub struct Base {
 }
 
 impl Base {
+    /// No cells yet.
     pub fn new(alloc: Global) -> Base
         ensures { (e f : List ℕ) → base_at result e f ≡ None }
     {
@@ -31,6 +32,7 @@ impl Base {
         }
     }
 
+    /// The cell of a place, where it has one.
     pub fn get(&self, entity: &EntityKey, field: &FieldKey) -> Option<&Cell>
         ensures { option_copied result ≡ base_at self.now entity.now field.now }
     {

@@ -106,6 +106,7 @@ impl Changes {
         Ok(())
     }
 
+    /// What the changes say of a place: a cell, that it is gone, or nothing.
     pub fn find(&self, entity: &EntityKey, field: &FieldKey) -> Found<'_>
         ensures { IsFound result (found_by self.now entity.now field.now) }
     {
@@ -115,6 +116,7 @@ impl Changes {
         }
     }
 
+    /// Whether they say something of it.
     pub fn says(&self, entity: &EntityKey, field: &FieldKey) -> bool
         ensures { result ≡ is_some (found_by self.now entity.now field.now) }
     {

@@ -56,6 +56,7 @@ impl Fields {
         }
     }
 
+    /// Whether a tombstone covers a field: its own name, or the whole object.
     pub fn is_buried(&self, field: &FieldKey) -> bool
         ensures { result ≡ is_buried self.now field.now }
     {
@@ -69,6 +70,7 @@ impl Fields {
         self.dropped || !self.names.is_empty()
     }
 
+    /// What is said of a field: a cell, that it is gone, or nothing.
     pub fn find(&self, field: &FieldKey) -> Found<'_>
         ensures { IsFound result (found_in self.now field.now) }
     {
@@ -85,6 +87,7 @@ impl Fields {
         }
     }
 
+    /// Whether something is said of it.
     pub fn says(&self, field: &FieldKey) -> bool
         ensures { result ≡ is_some (found_in self.now field.now) }
     {

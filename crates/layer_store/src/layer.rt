@@ -56,6 +56,7 @@ impl Layer {
         }
     }
 
+    /// What the layer says of a place: a cell, that it is gone, or nothing.
     pub fn find(&self, entity: &EntityKey, field: &FieldKey) -> Found<'_>
         ensures { IsFound result (found_by self.now.changes entity.now field.now) }
     {
@@ -65,6 +66,7 @@ impl Layer {
         }
     }
 
+    /// Whether it says something of it.
     pub fn says(&self, entity: &EntityKey, field: &FieldKey) -> bool
         ensures { result ≡ is_some (found_by self.now.changes entity.now field.now) }
     {

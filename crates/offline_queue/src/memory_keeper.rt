@@ -86,6 +86,7 @@ impl MemoryKeeper {
         self.end
     }
 
+    /// Whether it has no rows.
     pub fn is_empty(&self) -> bool
         ensures { IsTrue result ↔ self.now.rows ≡ [] }
     {

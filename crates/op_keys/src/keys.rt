@@ -69,6 +69,7 @@ impl Model for Keys {
 }
 
 impl Keys {
+    /// No identity yet.
     pub fn new(alloc: Global) -> Keys
         ensures { result ≡ [] }
     {

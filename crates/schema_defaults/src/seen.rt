@@ -16,6 +16,7 @@ pub struct Seen {
 }
 
 impl Seen {
+    /// No name met yet.
     pub fn new(alloc: Global) -> Seen
         ensures { Saw result [] }
     {

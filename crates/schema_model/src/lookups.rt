@@ -108,6 +108,7 @@ impl Schema {
 }
 
 impl RootNames {
+    /// The name of the root type of a kind of operations, where it has one.
     pub fn name_of(&self, kind: OperationKind) -> Option<&RootName>
         ensures { option_copied result ≡ root_name self.now kind }
     {
@@ -120,6 +121,7 @@ impl RootNames {
 }
 
 impl TypeForm {
+    /// The kind of type.
     pub fn kind(&self) -> TypeKind
         ensures { result ≡ kind_of self.now }
     {
@@ -133,6 +135,7 @@ impl TypeForm {
         }
     }
 
+    /// The field of a name, of an object type or an interface.
     pub fn field(&self, name: &Text) -> Option<&SchemaField>
         ensures { option_copied result ≡ field_in self.now name.now }
     {
@@ -143,6 +146,7 @@ impl TypeForm {
         }
     }
 
+    /// The fields of an input object type.
     pub fn input_fields(&self) -> Option<&Table<InputValue>>
         ensures { option_copied result ≡ input_fields_in self.now }
     {
@@ -152,6 +156,7 @@ impl TypeForm {
         }
     }
 
+    /// Whether it is an enum with this value.
     pub fn has_value(&self, name: &Text) -> bool
         ensures { result ≡ has_value self.now name.now }
     {

@@ -42,6 +42,7 @@ fn is_possible_type(object: &(Text, SchemaType), named: &(Text, SchemaType)) -> 
 }
 
 impl TypeForm {
+    /// Whether it is an object type.
     pub fn is_object(&self) -> bool
         ensures { result ≡ is_object self.now }
     {

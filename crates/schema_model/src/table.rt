@@ -33,6 +33,7 @@ impl<T> Model for Table<T> {
 }
 
 impl<T> Table<T> {
+    /// No pairs yet. Takes no memory.
     pub fn new(alloc: Global) -> Table<T>
         ensures { result ≡ [] }
     {
@@ -50,6 +51,7 @@ impl<T> Table<T> {
         self.pairs.as_slice()
     }
 
+    /// How many pairs there are.
     pub fn len(&self) -> usize
         ensures { result ≡ length self.now }
     {

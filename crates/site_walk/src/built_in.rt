@@ -23,6 +23,7 @@ pub struct BuiltIn {
 }
 
 impl BuiltIn {
+    /// The one error is want of memory.
     pub fn new(alloc: Global) -> Result<BuiltIn, Memory> {
         Ok(BuiltIn {
             condition: Table::new(alloc).put(Text::from_str(alloc, "if")?, condition(alloc)?)?,

@@ -25,6 +25,7 @@ pub struct Scope<'a> {
 }
 
 impl<'a> Scope<'a> {
+    /// A document under its schema, with the index of its fragments. The one error is want of memory.
     pub fn new(
         alloc: Global,
         schema: &'a Schema,

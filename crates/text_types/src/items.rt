@@ -23,6 +23,7 @@ impl<T> Model for Items<T> {
 }
 
 impl<T> Items<T> {
+    /// No items yet. Takes no memory.
     pub fn new(alloc: Global) -> Items<T>
         ensures { result ≡ [] }
     {
@@ -31,30 +32,35 @@ impl<T> Items<T> {
         }
     }
 
+    /// These items.
     pub fn from_vec(items: Vec<T>) -> Items<T>
         ensures { result ≡ items.items }
     {
         Items { items }
     }
 
+    /// The items, as a vector.
     pub fn into_vec(self) -> Vec<T>
         ensures { result.items ≡ self }
     {
         self.items
     }
 
+    /// The items, in order.
     pub fn as_slice(&self) -> &[T]
         ensures { result.now ≡ self.now }
     {
         self.items.as_slice()
     }
 
+    /// How many items there are.
     pub fn len(&self) -> usize
         ensures { result ≡ length self.now }
     {
         self.items.len()
     }
 
+    /// The item at a place, counted from 0.
     pub fn get(&self, at: usize) -> Option<&T>
         ensures value { option_copied result ≡ slice_get self.now at }
         ensures within { OnSome result (at < length self.now) }
@@ -62,18 +68,21 @@ impl<T> Items<T> {
         self.items.get(at)
     }
 
+    /// Whether there are none.
     pub fn is_empty(&self) -> bool
         ensures { IsTrue result ↔ self.now ≡ [] }
     {
         self.items.is_empty()
     }
 
+    /// Where the memory comes from.
     pub fn allocator(&self) -> Global {
         *self.items.allocator()
     }
 }
 
 impl<T: Drop> Items<T> {
+    /// Puts one item behind the others. The one error is want of memory, and it changes nothing.
     pub fn push(&mut self, item: T) -> Result<(), Memory>
         ensures ok { OnOk result (self.new ≡ self.old ++ item ∷ []) }
         ensures err { OnErr result (self.new ≡ self.old) }

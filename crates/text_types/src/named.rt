@@ -29,6 +29,7 @@ impl<T> Model for Named<T> {
 }
 
 impl<T> Named<T> {
+    /// No pairs yet. Takes no memory.
     pub fn new(alloc: Global) -> Named<T>
         ensures { result ≡ [] }
     {
@@ -37,12 +38,14 @@ impl<T> Named<T> {
         }
     }
 
+    /// The pairs, as a vector.
     pub fn into_vec(self) -> Vec<(Text, T)>
         ensures { result.items ≡ self }
     {
         self.pairs
     }
 
+    /// The pairs, in the order in which they were put.
     pub fn as_slice(&self) -> &[(Text, T)]
         ensures pairs { result.now ≡ self.now }
         ensures names { HasDistinctNames self.now }
@@ -50,12 +53,14 @@ impl<T> Named<T> {
         self.pairs.as_slice()
     }
 
+    /// How many pairs there are.
     pub fn len(&self) -> usize
         ensures { result ≡ length self.now }
     {
         self.pairs.len()
     }
 
+    /// The pair at a place, counted from 0.
     pub fn get(&self, at: usize) -> Option<&(Text, T)>
         ensures value { option_copied result ≡ slice_get self.now at }
         ensures within { OnSome result (at < length self.now) }
@@ -63,18 +68,22 @@ impl<T> Named<T> {
         self.pairs.get(at)
     }
 
+    /// Whether there are none.
     pub fn is_empty(&self) -> bool
         ensures { IsTrue result ↔ self.now ≡ [] }
     {
         self.pairs.is_empty()
     }
 
+    /// Where the memory comes from.
     pub fn allocator(&self) -> Global {
         *self.pairs.allocator()
     }
 }
 
 impl<T: Drop> Named<T> {
+    /// Puts a pair behind the others; its name is none of theirs. The one error is want of memory, and it
+    /// changes nothing.
     pub fn push(&mut self, name: Text, value: T) -> Result<(), Memory>
         requires { Lacks self.old name }
         ensures ok { OnOk result (self.new ≡ self.old ++ (name, value) ∷ []) }

@@ -24,6 +24,7 @@ impl Model for Text {
 }
 
 impl Text {
+    /// The empty text. Takes no memory.
     pub fn new(alloc: Global) -> Text
         ensures { result ≡ [] }
     {
@@ -32,6 +33,7 @@ impl Text {
         }
     }
 
+    /// A text of these characters. The one error is want of memory.
     pub fn from_str(alloc: Global, text: &str) -> Result<Text, Memory>
         ensures { IfOk result (λ t. t ≡ text.now) }
     {
@@ -40,24 +42,28 @@ impl Text {
         })
     }
 
+    /// The text that a string holds.
     pub fn from_string(text: String) -> Text
         ensures { result ≡ string_bytes text }
     {
         Text { text }
     }
 
+    /// The text, as a string.
     pub fn into_string(self) -> String
         ensures { string_bytes result ≡ self }
     {
         self.text
     }
 
+    /// The text, lent as a string.
     pub fn as_str(&self) -> &str
         ensures { result.now ≡ self.now }
     {
         self.text.as_str()
     }
 
+    /// The text's bytes, which are UTF-8.
     pub fn as_bytes(&self) -> &[u8]
         ensures bytes { result.now ≡ self.now }
         ensures utf8 { IsUtf8 self.now }
@@ -65,18 +71,21 @@ impl Text {
         self.text.as_str().as_bytes()
     }
 
+    /// How many bytes the text has.
     pub fn len(&self) -> usize
         ensures { result ≡ length self.now }
     {
         self.text.len()
     }
 
+    /// Whether it has none.
     pub fn is_empty(&self) -> bool
         ensures { IsTrue result ↔ self.now ≡ [] }
     {
         self.text.is_empty()
     }
 
+    /// Puts another text behind. The one error is want of memory, and it changes nothing.
     pub fn push(&mut self, more: &Text) -> Result<(), Memory>
         ensures ok { OnOk result (self.new ≡ self.old ++ more.now) }
         ensures err { OnErr result (self.new ≡ self.old) }
@@ -84,6 +93,7 @@ impl Text {
         self.push_str(more.as_str())
     }
 
+    /// Puts these characters behind. The one error is want of memory, and it changes nothing.
     pub fn push_str(&mut self, more: &str) -> Result<(), Memory>
         ensures ok { OnOk result (self.new ≡ self.old ++ more.now) }
         ensures err { OnErr result (self.new ≡ self.old) }
@@ -92,6 +102,7 @@ impl Text {
         Ok(())
     }
 
+    /// Where the memory comes from.
     pub fn allocator(&self) -> Global {
         *self.text.allocator()
     }
