@@ -1,4 +1,4 @@
--- S4: a defined name begins with two underscores (GraphQL October 2021, 3, Reserved Names).
+-- S4: a defined name begins with two underscores (GraphQL October 2021, 2.1.9, Reserved Names).
 use Rattle.std.specs.Prelude.{ℕ, Bool, List, codes, Option, None, Some, cond}
 use Rattle.std.specs.Bool.{nat_eq}
 use Rattle.std.specs.List.{starts_with}

@@ -87,7 +87,7 @@ Fit = TypeRef → Bool
 abbrev pub FieldFit : Type 0
 FieldFit = List ℕ × Fit
 
--- a list fits a list type whose item type each of its items fits
+-- a list fits a list type whose item type each of its items fits; such an item may stand for a list of one, which is this project's own
 abbrev pub list_fits : Schema → List Fit → TypeRef-F TypeRef → Bool
 list_fits schema items (TypeRef-F.Named name required) = takes_any schema name
 list_fits schema items (TypeRef-F.List inner required) = list_all (λ fits. fits inner) items
