@@ -1,4 +1,4 @@
-mod Splits
+pub mod Splits
 mod EscapeLaws
 mod Runs
 mod KeyLaws

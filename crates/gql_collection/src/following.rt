@@ -238,3 +238,13 @@ fn mark_at(marks: &[Mark], at: usize) -> Option<Mark>
 {
     marks.get(at).copied()
 }
+
+fn directives_of(selection: &Selection) -> &[Directive]
+    ensures { result.now ≡ spec.directives_of (out-Selection selection.now) }
+{
+    match selection {
+        Selection::Field(field) => field.directives.as_slice(),
+        Selection::Spread(spread) => spread.directives.as_slice(),
+        Selection::Inline(fragment) => fragment.directives.as_slice(),
+    }
+}

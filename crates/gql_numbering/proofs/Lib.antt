@@ -1,7 +1,7 @@
-mod Induction
-mod BeginningLaws
+pub mod Induction
+pub mod BeginningLaws
 mod NumberedLaws
-mod Growth
+pub mod Growth
 mod Places
 mod Sound
 pub mod DocumentLaws

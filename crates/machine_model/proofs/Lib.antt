@@ -1,4 +1,4 @@
-mod Lists
+pub mod Lists
 mod MapLaws
 mod Silence
 mod SilentCommands
