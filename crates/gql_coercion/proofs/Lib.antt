@@ -1,3 +1,2 @@
-mod CoercedLaws
 mod FieldLaws
 mod PutLaws

@@ -1,9 +1,9 @@
 -- Pairs put one after another: where their names are distinct they stand as they are.
-use Rattle.std.proofs.Common.{◌≡◌, ℕ, ◌+◌, ◌<◌, List, [], ◌∷◌, ◌++◌, length, map, drop, get_or, refl, sym, ap, ◌∙◌, append_assoc, append-nil, subst, Bool, true, false, cond, bytes_eq}
+use Rattle.std.proofs.Common.{◌≡◌, ℕ, List, [], ◌∷◌, ◌++◌, length, refl, sym, ap, ◌∙◌, append_assoc, append-nil, subst, Bool, true, false, cond, bytes_eq}
 use Rattle.std.specs.Prelude.{Option, None, Some}
 use Rattle.std.proofs.lemmas.List.Sums.{fold-append}
 use Rattle.std.specs.Option.{option_or, option_map, option_and_then, option_to_list}
-use Rattle.std.specs.List.{fold, flat_map, filter_map, cons_option, position_from, AllByRecursion, IsDistinct}
+use Rattle.std.specs.List.{fold, flat_map, filter_map, cons_option, AllByRecursion, IsDistinct}
 use Rattle.std.specs.Cmp.Lexicographic.{nat_list_eq_equiv}
 use Rattle.std.specs.declared.result.Result.{Result}
 use Rattle.std.specs.declared.result.Result.TheVariants.{Ok, Err}
@@ -23,9 +23,9 @@ use Rattle.execution_model.specs.Inputs.{Defaults, or_default}
 use Rattle.execution_model.specs.Defaults.{constant, field_value, fields_values, type_values}
 use Rattle.execution_model.specs.Arguments.{argument_default, argument_given, argument_member, coerced_argument, coerced_arguments}
 use Rattle.execution_model.specs.Variables.{variable_meaning, with_variable, coerced_variables}
-use Rattle.check_model.proofs.ListLaws.{next_left, position_push}
+use Rattle.check_model.proofs.ListLaws.{position_push}
 use Rattle.offered_values.proofs.NameLaws.{put_new}
-use Rattle.gql_coercion.specs.Coerced.{with_more, variable_names, HasDistinctVariables}
+use Rattle.gql_coercion.specs.Coerced.{with_more, variable_names}
 
 -- ---- one pair
 
@@ -103,16 +103,6 @@ arguments_put defaults schema variables defined arguments distinct =
     (λ d. argument_pair d (or_default d.1 (argument_default defaults schema d.1) (argument_given defaults schema variables arguments d)))
     [] defined (free_none Value (names_of defined)) distinct
 
--- one argument further
-pub arguments_next : {X Y : Type 0} (f : X → List (List ℕ × Y)) (xs : List X) (i : ℕ) (x : X) (values next whole : List (List ℕ × Y))
-    → i < length xs → x ≡ get_or xs i x → whole ≡ fold put values (flat_map f (drop i xs)) → next ≡ fold put values (f x)
-    → whole ≡ fold put next (flat_map f (drop (i + 1) xs))
-arguments_next f xs i x values next whole within is so_far here =
-    so_far
-    ∙ ap (λ ys. fold put values (flat_map f ys)) (next_left xs i x within is)
-    ∙ fold-append put values (f x) (flat_map f (drop (i + 1) xs))
-    ∙ ap (λ ps. fold put ps (flat_map f (drop (i + 1) xs))) (sym here)
-
 -- ---- variables
 
 abbrev behind : Pairs → Result Pairs (List ℕ) → Result Pairs (List ℕ)
@@ -179,21 +169,6 @@ given_put {X} {Y} f value_of ds is distinct =
     ap (fold put []) (listed f ds)
     ∙ put_all (λ d. option_to_list (f d)) value_of (λ d. ap option_to_list (is d) ∙ listed_pair d.0 (value_of d)) [] ds (free_none Y (names_of ds)) distinct
     ∙ sym (listed f ds)
-
-put_case : {Y : Type 0} (values : List (List ℕ × Y)) (o : Option (List ℕ × Y)) (rest : List (List ℕ × Y))
-    → fold put values (cons_option o rest) ≡ fold put (fold put values (option_to_list o)) rest
-put_case values None rest = refl
-put_case values (Some p) rest = refl
-
--- one given pair further
-pub given_next : {X Y : Type 0} (f : X → Option (List ℕ × Y)) (xs : List X) (i : ℕ) (x : X) (values next whole : List (List ℕ × Y))
-    → i < length xs → x ≡ get_or xs i x → whole ≡ fold put values (filter_map f (drop i xs)) → next ≡ fold put values (option_to_list (f x))
-    → whole ≡ fold put next (filter_map f (drop (i + 1) xs))
-given_next f xs i x values next whole within is so_far here =
-    so_far
-    ∙ ap (λ ys. fold put values (filter_map f ys)) (next_left xs i x within is)
-    ∙ put_case values (f x) (filter_map f (drop (i + 1) xs))
-    ∙ ap (λ ps. fold put ps (filter_map f (drop (i + 1) xs))) (sym here)
 
 -- ---- defaults
 

@@ -157,16 +157,7 @@ fn object_in(
     ensures { IfOk result (λ given. given ≡ spec.object_in inputs.now.defaults.now inputs.now.schema.now (map (spec.object_field_meaning inputs.now.defaults.now inputs.now.schema.now variables.now) fields.now) wanted.now) }
 {
     match inputs.fields(named_type(wanted)) {
-        Some(declared) => {
-            input_object(
-                alloc,
-                inputs,
-                variables,
-                fields,
-                declared.as_slice(),
-                wanted,
-            )
-        }
+        Some(declared) => input_object(alloc, inputs, variables, fields, declared, wanted),
         None => free_object(alloc, inputs, variables, fields, wanted),
     }
 }
@@ -177,11 +168,12 @@ fn input_object(
     inputs: &Inputs<'_>,
     variables: &Table<Value>,
     fields: &[ObjectField],
-    declared: &[(Text, InputValue)],
+    declared: &Table<InputValue>,
     wanted: &TypeRef,
 ) -> Result<Given, Memory>
     ensures { IfOk result (λ given. given ≡ inputs_spec.as_object_in wanted.now (inputs_spec.input_members (entry inputs.now.defaults.now (named_type wanted.now)) (map (spec.object_field_meaning inputs.now.defaults.now inputs.now.schema.now variables.now) fields.now) declared.now)) }
 {
+    let declared = declared.as_slice();
     let values = inputs.values(wanted);
     let members = input_members(alloc, inputs, variables, fields, declared, values)?;
     as_object_in(alloc, wanted, members)

@@ -34,6 +34,3 @@ deeper limit l ds is =
     one_less limit l (fold max 0 ds) is
     ∙ deeper_from l 0 ds
     ∙ ap (λ b. b || list_any (nat_lt l) ds) (not_less l)
-
-pub deeper_at_all : (limit n : ℕ) → limit ≡ 0 → true ≡ nat_lt limit (n + 1)
-deeper_at_all limit n is = grind (arith, nat_tests)

@@ -28,11 +28,6 @@ lacks_from name i (n ∷ ns) none = lacks_case name i n ns (bytes_eq name n) ref
 pub lacks_unplaced : {X : Type 0} (ps : List (List ℕ × X)) (name : List ℕ) → place_of ps name ≡ None → Lacks ps name
 lacks_unplaced ps name none = lacks_from name 0 (names_of ps) (sym (position_names name 0 ps) ∙ none)
 
--- the names of pairs with one more
-pub names_more : {X : Type 0} (ps : List (List ℕ × X)) (p : List ℕ × X) → names_of (ps ++ p ∷ []) ≡ names_of ps ++ p.0 ∷ []
-names_more [] p = refl
-names_more (q ∷ ps) p = ap (λ ns. q.0 ∷ ns) (names_more ps p)
-
 -- one pair more, whose name is new
 pub put_new : {X : Type 0} (ps : List (List ℕ × X)) (p : List ℕ × X) → place_of ps p.0 ≡ None → put ps p ≡ ps ++ p ∷ []
 put_new ps p none = ap (λ (o : Option ℕ). if is_some o then ps else ps ++ p ∷ []) none
