@@ -1,20 +1,33 @@
 use fetch_link::{Asked, Fetch, Progress, Request, reply_text, request_text};
-use gql_value::{Fault, Outcome};
+use gql_value::{Fault, Outcome, sorted_text};
 use std::alloc::Global;
 use std::str;
 use std::test::Fail;
 use text_types::Text;
 
-fn told(outcome: &Outcome) -> &'static str {
-    match outcome {
-        Outcome::Body { .. } => "body",
-        Outcome::Bad(Fault::F1) => "F1",
-        Outcome::Bad(Fault::F2) => "F2",
-        Outcome::Bad(Fault::F6) => "F6",
-        Outcome::Bad(Fault::F7) => "F7",
-        Outcome::Bad(Fault::F8) => "F8",
-        Outcome::Bad(_) => "another",
+fn code_of(fault: &Fault) -> &'static str {
+    match fault {
+        Fault::F1 => "F1",
+        Fault::F2 => "F2",
+        Fault::F6 => "F6",
+        Fault::F7 => "F7",
+        Fault::F8 => "F8",
+        _ => "another",
     }
+}
+
+/// An outcome as a line: the answer and its errors as JSON, with members by name, or the fault's code.
+fn told(alloc: Global, outcome: &Outcome) -> Result<Text, Fail> {
+    let mut line = Text::new(alloc);
+    match outcome {
+        Outcome::Body { answer, errors } => {
+            line.push(&sorted_text(alloc, answer)?)?;
+            line.push_str(" ")?;
+            line.push(&sorted_text(alloc, errors)?)?;
+        }
+        Outcome::Bad(fault) => line.push_str(code_of(fault))?,
+    }
+    Ok(line)
 }
 
 /// What a response comes to that comes in pieces of this size, and then the close.
@@ -49,7 +62,7 @@ fn a_response_comes_to_the_same_in_all_pieces(rt: HostRuntime) -> Result<(), Fai
         ("HTTP/1.1 204 No Content\r\n\r\n", "F1"),
         (
             "HTTP/1.1 200 OK\r\nContent-Length: 46\r\n\r\n{\"data\":{\"me\":{\"__typename\":\"User\",\"id\":\"7\"}}}",
-            "body",
+            "{\"me\":{\"__typename\":\"User\",\"id\":\"7\"}} []",
         ),
         (
             "HTTP/1.1 200 OK\r\nContent-Length: 46\r\n\r\n{\"data\":{\"me\":{\"__typename\":\"User\",\"id\":\"7\"}}",
@@ -61,23 +74,23 @@ fn a_response_comes_to_the_same_in_all_pieces(rt: HostRuntime) -> Result<(), Fai
         ),
         (
             "HTTP/1.1 100 Continue\r\n\r\nHTTP/1.1 200 OK\r\n\r\n{\"data\":null}",
-            "body",
+            "null []",
         ),
         ("HTTP/1.1 100 Continue\r\n\r\n", "F6"),
         (
             "HTTP/1.1 200 OK\nTransfer-Encoding: ChunKed\nContent-Length: 9\n\n5;x=y\r\n{\"dat\r\n0F\r\na\":{\"me\":null}}\r\n0\r\nA: b\r\n\r\n",
-            "body",
+            "{\"me\":null} []",
         ),
-        ("HTTP/1.0 200\r\n\r\n{\"data\":null}", "body"),
+        (
+            "HTTP/1.0 200\r\n\r\n{\"errors\":[{\"message\":\"no\"}],\"data\":{\"b\":1,\"a\":[-2,\"\\u00e9\"]}}",
+            "{\"a\":[-2,\"é\"],\"b\":1} [{\"message\":\"no\"}]",
+        ),
     ];
     for (message, expected) in rows {
         for size in 1..=message.len() {
             let outcome = outcome_of_pieces(rt.alloc(), message.as_bytes(), size)?;
-            assert_eq!(rt;
-                told(&outcome),
-                expected,
-                "at {message} in pieces of {size}"
-            );
+            let line = told(rt.alloc(), &outcome)?;
+            assert_eq!(rt; line.as_str(), expected, "at {message} in pieces of {size}");
         }
     }
     Ok(())
@@ -110,12 +123,26 @@ fn page(alloc: Global) -> Result<Text, Fail> {
     Ok(message)
 }
 
+/// The line of its outcome.
+fn page_told(alloc: Global) -> Result<Text, Fail> {
+    let letters = "a".repeat(alloc, 200)?;
+    let mut line = Text::from_str(alloc, "{\"todos\":[null")?;
+    for id in 1..=200 {
+        let todo = format!(in alloc; ",{{\"done\":false,\"id\":\"{id}\",\"text\":\"{letters}\"}}")?;
+        line.push_str(&todo)?;
+    }
+    line.push_str("]} []")?;
+    Ok(line)
+}
+
 #[test]
 fn a_page_comes_in_arrivals(rt: HostRuntime) -> Result<(), Fail> {
     let message = page(rt.alloc())?;
+    let expected = page_told(rt.alloc())?;
     for size in [1, 7, 1000, 1_000_000] {
         let outcome = outcome_of_pieces(rt.alloc(), message.as_bytes(), size)?;
-        assert_eq!(rt; told(&outcome), "body", "in arrivals of {size}");
+        let line = told(rt.alloc(), &outcome)?;
+        assert_eq!(rt; line.as_str(), expected.as_str(), "in arrivals of {size}");
     }
     Ok(())
 }
